@@ -8,10 +8,11 @@ use Rattle.sst_base.specs.Counted.{found_item}
 use Rattle.sst_base.specs.Entry.{Entry}
 use Rattle.sst_base.specs.TestLaws.{some_is}
 use Rattle.sst_block_core.specs.Entries.{entries}
-use Rattle.sst_block_core.specs.Window.{Window, Answer, count_passed, items_left, seek, seek_upper, whole}
+use Rattle.sst_block_core.specs.Window.{Window, Answer, count_passed, item, items_left, seek, seek_upper, whole}
 use Rattle.sstable_blocks.specs.Blocks.{IsNotEmpty, joined}
-use Rattle.sst_merge.specs.Movable.{TakesBack, TakesFront, is_sought, item_before}
+use Rattle.sst_merge.specs.Movable.{is_sought, item_before}
 use Rattle.sst_merge.specs.MovableBlocks.{HoldsBack, HoldsFront, IsBackIn, IsFrontIn, TakesFirstOf, TakesLastOf, back_place, entries_before, entry_key, front_place, is_block_sought, is_last_sought, window_of}
+use Rattle.sst_merge.specs.Moved.{IsStep, Moved, in_memory, step_back, step_front}
 use Rattle.sst_merge.specs.declared.movable_blocks.Open.{Open}
 use Rattle.sst_merge.proofs.BlockCounts.{passed_at_most, passed_below}
 use Rattle.sst_merge.proofs.BlockPlaces.{before_le, before_next, drop_first, inside_joined, joined_item, take_last}
@@ -238,18 +239,17 @@ none_at_start blocks front = le-ltb (front_place blocks front) 0 (omega arith)
 
 -- The steps of a window.
 module _ (blocks : List (List Entry)) where
-  pub takes_front : (old new back : Option Open) (w : Window Entry) (r : Option Entry) → window_of blocks old back ≡ w → r ≡ slice_get (joined blocks) (front_place blocks old) → front_place blocks new ≡ front_place blocks old + found_item r → TakesFront w r (window_of blocks new back)
-  takes_front old new back w None is item place =
-      subst (λ v. TakesFront v None (window_of blocks new back)) is
-      (sym item, ap (λ n. record (window_of blocks old back) { lo = n }) (let e : front_place blocks new ≡ front_place blocks old = omega (arith, place) in e))
-  takes_front old new back w (Some x) is item place =
-      subst (λ v. TakesFront v (Some x) (window_of blocks new back)) is
-      (sym item, ap (λ n. record (window_of blocks old back) { lo = n }) place)
+  pub takes_front : (old new back : Option Open) (w : Window Entry) (r : Option Entry) → window_of blocks old back ≡ w → r ≡ slice_get (joined blocks) (front_place blocks old) → front_place blocks new ≡ front_place blocks old + found_item r
+      → IsStep step_front (in_memory w) r (in_memory (window_of blocks new back))
+  takes_front old new back w r is item_is place =
+      let to : ℕ → Moved Entry = λ n. in_memory (record (window_of blocks old back) { lo = n }) in
+      subst (λ v. IsStep step_front (in_memory v) r (in_memory (window_of blocks new back))) is
+      (record { moved = ap to (place ∙ ap (λ x. front_place blocks old + found_item x) item_is); item_is = ap item item_is })
 
-  pub takes_back : (old new front : Option Open) (w : Window Entry) (r : Option Entry) → window_of blocks front old ≡ w → r ≡ item_before (joined blocks) (back_place blocks old) → back_place blocks new + found_item r ≡ back_place blocks old → TakesBack w r (window_of blocks front new)
-  takes_back old new front w None is item place =
-      subst (λ v. TakesBack v None (window_of blocks front new)) is
-      (sym item, ap (λ n. record (window_of blocks front old) { hi = n }) (let e : back_place blocks new ≡ back_place blocks old = omega (arith, place) in e))
-  takes_back old new front w (Some x) is item place =
-      subst (λ v. TakesBack v (Some x) (window_of blocks front new)) is
-      (sym item, ap (λ n. record (window_of blocks front old) { hi = n }) (let e : back_place blocks new ≡ back_place blocks old - 1 = omega (arith, place) in e))
+  pub takes_back : (old new front : Option Open) (w : Window Entry) (r : Option Entry) → window_of blocks front old ≡ w → r ≡ item_before (joined blocks) (back_place blocks old) → back_place blocks new + found_item r ≡ back_place blocks old
+      → IsStep step_back (in_memory w) r (in_memory (window_of blocks front new))
+  takes_back old new front w r is item_is place =
+      let to : ℕ → Moved Entry = λ n. in_memory (record (window_of blocks front old) { hi = n }) in
+      let less : back_place blocks new ≡ back_place blocks old - found_item r = omega (arith, place) in
+      subst (λ v. IsStep step_back (in_memory v) r (in_memory (window_of blocks front new))) is
+      (record { moved = ap to (less ∙ ap (λ x. back_place blocks old - found_item x) item_is); item_is = ap item item_is })

@@ -16,7 +16,7 @@ use Rattle.sst_merge.specs.Merge.{merged}
 use Rattle.sst_merge.specs.Movable.{AreMoved, IsBackAmong, IsBackPick, IsFresh, IsFrontAmong, IsFrontPick, TakesBack, TakesFront, changed_until, goes_after, goes_before, item_before, lists_in, merged_window}
 use Rattle.sst_merge.specs.Moved.{IsFreshSource, IsStep, MayStop, Moved, all_some, are_known, merged_moved, moved_errors, sought, step_back, step_front, unless_ended, window_or_empty, windows}
 use Rattle.sst_merge.specs.Sources.{errors_of}
-use Rattle.sst_merge.proofs.MovableLaws.{back_done, back_empty, back_ends, back_is, back_kept, back_start, back_turn, changed_next, front_done, front_start, front_turn, not_changed, next_empty, next_ends, next_is, next_kept}
+use Rattle.sst_merge.proofs.MovableLaws.{back_done, back_empty, back_ends, back_is, back_kept, back_start, back_turn, changed_next, first_is, front_done, front_start, front_turn, last_is, not_changed, next_empty, next_ends, next_is, next_kept}
 
 module _ {X : Type 0} where
   known_parts : (o : Option (Window X)) (rest : Bool) → all_some o rest ≡ true → (o ≡ Some (window_or_empty o)) × (rest ≡ true)
@@ -116,6 +116,14 @@ module _ {X : Type 0} where
 abbrev view : {X : Type 0} → Moved X → Window X
 view m = window_or_empty m.window
 
+-- what a source may fail by, the merge may
+pub stop_by : {X : Type 0} (cmp : X → X → Ordering) (ms : List (Moved X)) (p : ℕ) (m : Moved X) → p < length ms → m ≡ get_or ms p m → (may_fail : Error → Type 0) (e : Error) → MayStop may_fail m e → MayStop may_fail (merged_moved cmp None ms) e
+stop_by cmp ms p m inside is may_fail e (inl device) = inl device
+stop_by {X = X} cmp ms p m inside is may_fail e (inr met) =
+    let f = λ (k : Moved X). moved_errors k in
+    let n : length (map f ms) ≡ length ms = length-map ms f in
+    inr (met_under None (errors_of (map f ms)) e (one_of_all (map f ms) p (f m) e (omega (arith, n, inside)) (get_or-map f ms p m (f m) inside ∙ ap f (sym is)) met))
+
 module _ {X : Type 0} (cmp : X → X → Ordering) (order : IsTotalOrder cmp) (ms : List (Moved X)) (kept : are_known ms ≡ true → AreMoved cmp (windows ms)) where
   -- what the merge is after a step of a source
   by_step : (step own : Step X) (p : ℕ) (m n : Moved X) (r : Option X) → p < length ms → m ≡ get_or ms p m → IsStep own m r n → (are_known ms ≡ true → (merged_window cmp (windows (set ms p n)), item r) ≡ step (merged_window cmp (windows ms)))
@@ -167,19 +175,46 @@ module _ {X : Type 0} (cmp : X → X → Ordering) (order : IsTotalOrder cmp) (m
     pub lost_kept : (n : Moved X) → n.window ≡ None → are_known (set ms p n) ≡ true → AreMoved cmp (windows (set ms p n))
     lost_kept n none now = absurd (let e = sym (lost_set ms p n inside none) ∙ now in cc)
 
-    -- what it may fail by, the merge may
-    pub stop_of_all : (may_fail : Error → Type 0) (e : Error) → MayStop may_fail m e → MayStop may_fail (merged_moved cmp None ms) e
-    stop_of_all may_fail e (inl device) = inl device
-    stop_of_all may_fail e (inr met) =
-        (let f = λ (k : Moved X). moved_errors k in
-        let n : length (map f ms) ≡ length ms = length-map ms f in
-        inr (met_under None (errors_of (map f ms)) e (one_of_all (map f ms) p (f m) e (omega (arith, n, inside)) (get_or-map f ms p m (f m) inside ∙ ap f (sym is)) met)))
-
   pub first_empty : length ms ≡ 0 → IsStep next (merged_moved cmp None ms) None (merged_moved cmp None ms)
   first_empty none = no_step next (λ known. next_empty cmp order view ms (merged_window cmp (windows ms)) refl none)
 
   pub last_empty : length ms ≡ 0 → IsStep next_back (merged_moved cmp None ms) None (merged_moved cmp None ms)
   last_empty none = no_step next_back (λ known. back_empty cmp order view ms (merged_window cmp (windows ms)) refl none)
+
+-- what is shown of a merge, where no source has an item left, and where one has
+module _ {X : Type 0} (cmp : X → X → Ordering) (order : IsTotalOrder cmp) (ms : List (Moved X)) (kept : are_known ms ≡ true → AreMoved cmp (windows ms)) (ended : Option Error) (all : Moved X) (whole_is : merged_moved cmp ended ms ≡ all) where
+  by_known : (P : Window X → Type 0) → (are_known ms ≡ true → P (merged_window cmp (windows ms))) → IfSome all.window P
+  by_known P h = subst (λ (m : Moved X). IfSome m.window P) whole_is (shown P ended (are_known ms) (merged_window cmp (windows ms)) h)
+
+  answer : (step : Step X) (o : Option X) (e : (merged_window cmp (windows ms), item None) ≡ step (merged_window cmp (windows ms))) → item o ≡ (step (merged_window cmp (windows ms))).1 → None ≡ o
+  answer step o e h = item_same None o (ap (λ r. r.1) e ∙ sym h)
+
+  pub shows_no_first : length ms ≡ 0 → IfSome all.window (λ w. None ≡ first_left w)
+  shows_no_first none = by_known (λ w. None ≡ first_left w) (λ known. let m = merged_window cmp (windows ms) in answer next (first_left m) (next_empty cmp order view ms m refl none) refl)
+
+  pub shows_no_last : length ms ≡ 0 → IfSome all.window (λ w. None ≡ last_left w)
+  shows_no_last none = by_known (λ w. None ≡ last_left w) (λ known. let m = merged_window cmp (windows ms) in answer next_back (last_left m) (back_empty cmp order view ms m refl none) refl)
+
+  module _ (p : ℕ) (m : Moved X) (inside : p < length ms) (is : m ≡ get_or ms p m) where
+    pub shows_none_first : (left : Bool) → (are_known ms ≡ true → IsFrontPick cmp (windows ms) p) → IfSome m.window (λ w. left ≡ some_left w) → left ≡ false → IfSome all.window (λ w. None ≡ first_left w)
+    shows_none_first left pick some none = by_known (λ w. None ≡ first_left w) (λ known.
+        let w = merged_window cmp (windows ms) in
+        answer next (first_left w) (next_ends cmp order view ms (kept known) p m is w refl (pick known) (left_is cmp order ms kept p m inside is left false some none known)) refl)
+
+    pub shows_none_last : (left : Bool) → (are_known ms ≡ true → IsBackPick cmp (windows ms) p) → IfSome m.window (λ w. left ≡ some_left w) → left ≡ false → IfSome all.window (λ w. None ≡ last_left w)
+    shows_none_last left pick some none = by_known (λ w. None ≡ last_left w) (λ known.
+        let w = merged_window cmp (windows ms) in
+        answer next_back (last_left w) (back_ends cmp order view ms (kept known) p m is w refl (pick known) (left_is cmp order ms kept p m inside is left false some none known)) refl)
+
+    pub shows_first : (left : Bool) (o : Option X) → (are_known ms ≡ true → IsFrontPick cmp (windows ms) p) → IfSome m.window (λ w. left ≡ some_left w) → left ≡ true → IfSome m.window (λ w. o ≡ slice_get w.list w.lo) → IfSome all.window (λ w. o ≡ first_left w)
+    shows_first left o pick some more at = by_known (λ w. o ≡ first_left w) (λ known.
+        first_is cmp order view ms (kept known) p m is (merged_window cmp (windows ms)) refl o (pick known) (left_is cmp order ms kept p m inside is left true some more known)
+        (if_known (λ w. o ≡ slice_get w.list w.lo) m.window (known_at ms p m known inside is) at))
+
+    pub shows_last : (left : Bool) (o : Option X) → (are_known ms ≡ true → IsBackPick cmp (windows ms) p) → IfSome m.window (λ w. left ≡ some_left w) → left ≡ true → IfSome m.window (λ w. o ≡ item_before w.list w.hi) → IfSome all.window (λ w. o ≡ last_left w)
+    shows_last left o pick some more at = by_known (λ w. o ≡ last_left w) (λ known.
+        last_is cmp order view ms (kept known) p m is (merged_window cmp (windows ms)) refl o (pick known) (left_is cmp order ms kept p m inside is left true some more known)
+        (if_known (λ w. o ≡ item_before w.list w.hi) m.window (known_at ms p m known inside is) at))
 
 -- sources that are all sought in
 module _ {X : Type 0} (cmp : X → X → Ordering) (f : Window X → Window X) (none : f (whole []) ≡ whole []) where
@@ -269,3 +304,87 @@ module _ {S X : Type 0} (cmp : X → X → Ordering) (order : IsTotalOrder cmp) 
 
   pub back_found : (n place : ℕ) → n ≤ length ss → length ss ≤ n → (are_known (map moved ss) ≡ true → IsBackAmong cmp (windows (map moved ss)) n place) → are_known (map moved ss) ≡ true → IsBackPick cmp (windows (map moved ss)) place
   back_found n place short long all known = (let l = many_moved in back_done cmp order view (map moved ss) n place (omega (arith, l, short)) (omega (arith, l, long)) (all known))
+
+-- nothing is left to show of sources that are lost
+pub lost_all : {X : Type 0} (cmp : X → X → Ordering) (ms : List (Moved X)) → are_known ms ≡ false → are_known ms ≡ true → AreMoved cmp (windows ms)
+lost_all cmp ms lost known = absurd (let e = sym lost ∙ known in cc)
+
+-- a source is lost
+pub lost_source : {S X : Type 0} (moved : S → Moved X) (ss : List S) (i : ℕ) (t : S) → i < length ss → (moved t).window ≡ None → are_known (map moved (set ss i t)) ≡ false
+lost_source moved ss i t inside none = ap are_known (map-set moved ss i t) ∙ lost_set (map moved ss) i (moved t) (let n = length-map ss moved in omega (arith, n, inside)) none
+
+-- what the next source may fail by, the merge may, where those before it were changed
+pub stop_first : {S X : Type 0} (cmp : X → X → Ordering) (order : IsTotalOrder cmp) (moved : S → Moved X) (f : Moved X → Moved X) (old ss : List S) (k : ℕ) (s : S) → k < length ss → length ss ≡ length old → s ≡ get_or ss k s → map moved ss ≡ changed_until f k (map moved old)
+    → (may_fail : Error → Type 0) (e : Error) → MayStop may_fail (moved s) e → MayStop may_fail (merged_moved cmp None (map moved old)) e
+stop_first cmp order moved f old ss k s inside size is so_far may_fail e h =
+    let n = length-map old moved in
+    stop_by cmp (map moved old) k (moved s) (omega (arith, n, inside, size)) (still_first moved f old ss k s inside size is so_far) may_fail e h
+
+-- The steps of a merge that no error has ended.
+module _ {S X : Type 0} (cmp : X → X → Ordering) (order : IsTotalOrder cmp) (moved : S → Moved X) (ss : List S) (kept : are_known (map moved ss) ≡ true → AreMoved cmp (windows (map moved ss))) (ended : Option Error) (going : ended ≡ None) (all : Moved X) (whole_is : merged_moved cmp ended (map moved ss) ≡ all) where
+  from_start : merged_moved cmp None (map moved ss) ≡ all
+  from_start = ap (λ e. merged_moved cmp e (map moved ss)) (sym going) ∙ whole_is
+
+  no_items : (step : Step X) → IsStep step (merged_moved cmp None (map moved ss)) None (merged_moved cmp None (map moved ss)) → IsStep step all None all
+  no_items step h = subst (λ m. IsStep step m None m) from_start h
+
+  pub ends_first : length ss ≡ 0 → IsStep next all None all
+  ends_first none = no_items next (first_empty cmp order (map moved ss) kept (length-map ss moved ∙ none))
+
+  pub ends_last : length ss ≡ 0 → IsStep next_back all None all
+  ends_last none = no_items next_back (last_empty cmp order (map moved ss) kept (length-map ss moved ∙ none))
+
+  module _ (p : ℕ) (s : S) (inside : p < length ss) (is : s ≡ get_or ss p s) where
+    there : p < length (map moved ss)
+    there = let n = length-map ss moved in omega (arith, n, inside)
+
+    here : moved s ≡ get_or (map moved ss) p (moved s)
+    here = moved_at cmp order moved ss p s inside is
+
+    pub none_first : (left : Bool) → (are_known (map moved ss) ≡ true → IsFrontPick cmp (windows (map moved ss)) p) → IfSome (moved s).window (λ w. left ≡ some_left w) → left ≡ false → IsStep next all None all
+    none_first left pick some none = no_items next (first_none cmp order (map moved ss) kept p (moved s) there here left pick some none)
+
+    pub none_last : (left : Bool) → (are_known (map moved ss) ≡ true → IsBackPick cmp (windows (map moved ss)) p) → IfSome (moved s).window (λ w. left ≡ some_left w) → left ≡ false → IsStep next_back all None all
+    none_last left pick some none = no_items next_back (last_none cmp order (map moved ss) kept p (moved s) there here left pick some none)
+
+    taken_by : (step : Step X) (t : S) (r : Option X) → IsStep step (merged_moved cmp None (map moved ss)) r (merged_moved cmp None (set (map moved ss) p (moved t))) → IsStep step all r (merged_moved cmp ended (map moved (set ss p t)))
+    taken_by step t r h =
+        subst (λ m. IsStep step m r (merged_moved cmp ended (map moved (set ss p t)))) from_start
+        (subst (λ e. IsStep step (merged_moved cmp None (map moved ss)) r (merged_moved cmp e (map moved (set ss p t)))) (sym going)
+        (subst (λ ns. IsStep step (merged_moved cmp None (map moved ss)) r (merged_moved cmp None ns)) (sym (map-set moved ss p t)) h))
+
+    pub takes_first : (t : S) (r : Option X) (left : Bool) → (are_known (map moved ss) ≡ true → IsFrontPick cmp (windows (map moved ss)) p) → IfSome (moved s).window (λ w. left ≡ some_left w) → left ≡ true → IsStep step_front (moved s) r (moved t)
+        → IsStep next all r (merged_moved cmp ended (map moved (set ss p t)))
+    takes_first t r left pick some more h = taken_by next t r (first_step cmp order (map moved ss) kept p (moved s) there here (moved t) r left pick some more h)
+
+    pub takes_last : (t : S) (r : Option X) (left : Bool) → (are_known (map moved ss) ≡ true → IsBackPick cmp (windows (map moved ss)) p) → IfSome (moved s).window (λ w. left ≡ some_left w) → left ≡ true → IsStep step_back (moved s) r (moved t)
+        → IsStep next_back all r (merged_moved cmp ended (map moved (set ss p t)))
+    takes_last t r left pick some more h = taken_by next_back t r (last_step cmp order (map moved ss) kept p (moved s) there here (moved t) r left pick some more h)
+
+    kept_by : (t : S) → (are_known (set (map moved ss) p (moved t)) ≡ true → AreMoved cmp (windows (set (map moved ss) p (moved t)))) → are_known (map moved (set ss p t)) ≡ true → AreMoved cmp (windows (map moved (set ss p t)))
+    kept_by t h = subst (λ ns. are_known ns ≡ true → AreMoved cmp (windows ns)) (sym (map-set moved ss p t)) h
+
+    pub keeps_first : (t : S) (r : Option X) → (are_known (map moved ss) ≡ true → IsFrontPick cmp (windows (map moved ss)) p) → IsStep step_front (moved s) r (moved t) → are_known (map moved (set ss p t)) ≡ true → AreMoved cmp (windows (map moved (set ss p t)))
+    keeps_first t r pick h = kept_by t (first_kept cmp order (map moved ss) kept p (moved s) there here (moved t) r pick h)
+
+    pub keeps_last : (t : S) (r : Option X) → (are_known (map moved ss) ≡ true → IsBackPick cmp (windows (map moved ss)) p) → IsStep step_back (moved s) r (moved t) → are_known (map moved (set ss p t)) ≡ true → AreMoved cmp (windows (map moved (set ss p t)))
+    keeps_last t r pick h = kept_by t (last_kept cmp order (map moved ss) kept p (moved s) there here (moved t) r pick h)
+
+    pub keeps_lost : (t : S) → (moved t).window ≡ None → are_known (map moved (set ss p t)) ≡ true → AreMoved cmp (windows (map moved (set ss p t)))
+    keeps_lost t none = kept_by t (lost_kept cmp order (map moved ss) kept p (moved s) there here (moved t) none)
+
+    pub stops_by : (may_fail : Error → Type 0) (e : Error) → MayStop may_fail (moved s) e → MayStop may_fail all e
+    stops_by may_fail e h = subst (λ m. MayStop may_fail m e) from_start (stop_by cmp (map moved ss) p (moved s) there here may_fail e h)
+
+  -- all sources were sought in
+  pub seeks_merge : (f : Window X → Window X) (ns : List (Moved X)) → f (whole []) ≡ whole [] → (are_known (map moved ss) ≡ true → merged_window cmp (map f (windows (map moved ss))) ≡ f (merged_window cmp (windows (map moved ss)))) → ns ≡ map (sought f) (map moved ss)
+      → merged_moved cmp ended ns ≡ sought f all
+  seeks_merge f ns none is now = ap (λ e. merged_moved cmp e ns) going ∙ ap (merged_moved cmp None) now ∙ merged_sought cmp f none (map moved ss) is ∙ ap (sought f) from_start
+
+  pub seeks_kept : (f : Window X → Window X) (ns : List (Moved X)) → f (whole []) ≡ whole [] → (are_known (map moved ss) ≡ true → AreMoved cmp (map f (windows (map moved ss)))) → ns ≡ map (sought f) (map moved ss) → are_known ns ≡ true → AreMoved cmp (windows ns)
+  seeks_kept f ns none is now =
+      subst (λ ms. are_known ms ≡ true → AreMoved cmp (windows ms)) (sym now)
+      (λ known. subst (AreMoved cmp) (sym (windows_sought cmp f none (map moved ss))) (is (sym (known_sought cmp f none (map moved ss)) ∙ known)))
+
+  pub stops_merge : (may_fail : Error → Type 0) (e : Error) → MayStop may_fail (merged_moved cmp None (map moved ss)) e → MayStop may_fail all e
+  stops_merge may_fail e h = subst (λ m. MayStop may_fail m e) from_start h

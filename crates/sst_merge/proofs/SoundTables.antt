@@ -65,8 +65,7 @@ module _ (c : Hashes) (sums : (bytes : List ℕ) → c.hash128 bytes < 2 ^ 128)
     all_read (b ∷ bs) [] valid stored = absurd stored
     all_read (b ∷ bs) (h ∷ hs) valid stored =
         let read = stored_is_read c sums data_verdict index_verdict data_read index_read plain_match bytes [] 0 h b valid.0 stored.0 in
-        let rest = all_read bs hs valid.1 stored.1 in
-        (
+        let rest = all_read bs hs valid.1 stored.1 in (
           ap (λ r. with_block r (read_blocks (block_reads c bytes hs))) read ∙ ap (with_block (Ok (map plain b))) rest.0,
           ap (λ r. errors_in (r ∷ block_reads c bytes hs)) read ∙ rest.1,
         )
@@ -78,8 +77,8 @@ module _ (c : Hashes) (sums : (bytes : List ℕ) → c.hash128 bytes < 2 ^ 128)
     ends_plain (b ∷ bs) (h ∷ hs) stored =
         let i = stored.0.end in
         let last : item_before (map plain b) (length (map plain b)) ≡ Some (plain i.last) =
-            ap (λ xs. item_before (map plain xs) (length (map plain xs))) i.whole ∙ last_plain i.front i.last (length (map plain (i.front ++ i.last ∷ []))) refl in
-        let key : is_eq (slice_cmp nat_cmp h.end_key i.last.key.user_key) ≡ true = ap is_eq (slice_cmp-equal h.end_key i.last.key.user_key).1 i.key in
+        ap (λ xs. item_before (map plain xs) (length (map plain xs))) i.whole ∙ last_plain i.front i.last (length (map plain (i.front ++ i.last ∷ []))) refl in
+        let key : is_eq (slice_cmp nat_cmp h.end_key i.last.key.user_key) ≡ true = ap is_eq ((slice_cmp-equal h.end_key i.last.key.user_key).1 i.key) in
         both (ends_with h (item_before (map plain b) (length (map plain b)))) (have_ends hs (map (map plain) bs)) (ap (ends_with h) last ∙ key) (ends_plain bs hs stored.1)
 
     fits : (hs : List Handle) (blocks : List (List Entry)) → IsOrdered entries (joined blocks) → have_ends hs (map (map plain) blocks) ≡ true → fit_blocks hs (Some (map (map plain) blocks)) ≡ Some (map (map plain) blocks)

@@ -1,9 +1,11 @@
 -- Laws of tables whose ends are moved: of their blocks, where they are known, and of the errors of reading them.
-use Rattle.std.proofs.Common.{◌≡◌, ◌≢◌, ℕ, zero, suc, ◌+◌, ◌-◌, ◌<◌, ◌≤◌, ◌^◌, Bool, true, false, cond, List, [], ◌∷◌, ◌++◌, length, map, drop, take, Option, Some, None, Result, Ok, Err, slice_get, refl, sym, ap, subst, ◌∙◌, inl, inr, ◌⊎◌, arith}
-use Rattle.std.proofs.lemmas.List.Sums.{sum_by-cons}
+use Rattle.std.proofs.Common.{◌≡◌, ◌≢◌, ℕ, zero, suc, ◌+◌, ◌-◌, ◌<◌, ◌≤◌, ◌^◌, Bool, true, false, cond, nat_lt, List, [], ◌∷◌, ◌++◌, length, map, drop, take, Option, Some, None, Result, Ok, Err, slice_get, refl, sym, ap, subst, ◌∙◌, inl, inr, ◌⊎◌, arith}
+use Rattle.std.proofs.lemmas.List.{take_all, take_rest}
+use Rattle.std.proofs.lemmas.List.Sums.{count_by-le-length, sum_by-cons}
 use Rattle.std.specs.Cmp.Lexicographic.{slice_cmp}
 use Rattle.std.specs.List.{AllByRecursion, count_by}
 use Rattle.std.specs.Option.{IfSome, option_map}
+use Rattle.std.specs.Result.{IfOk}
 use Rattle.std.specs.Ordering.{is_eq, is_le, is_lt, nat_cmp}
 use Rattle.std.specs.Prelude.{◌&&◌}
 use Rattle.sst_base.specs.Counted.{found_item}
@@ -16,7 +18,7 @@ use Rattle.sst_block_core.specs.Entries.{entries}
 use Rattle.sst_block_core.specs.Handles.{Handle, handles}
 use Rattle.sst_block_core.specs.Kind.{IsOrdered}
 use Rattle.sst_block_core.specs.VersionLaws.{keys_equal}
-use Rattle.sst_block_core.specs.Window.{Window, count_passed, item, passes}
+use Rattle.sst_block_core.specs.Window.{Answer, Window, count_passed, item, items_left, passes, seek, seek_upper, whole}
 use Rattle.sstable_blocks.specs.Blocks.{IsNotEmpty, joined}
 use Rattle.sstable_blocks.specs.BoundLaws.{below_is, up_to_is}
 use Rattle.sstable_blocks.specs.Opened.{range_of}
@@ -26,15 +28,16 @@ use Rattle.sstable_blocks.specs.Tables.{TableParts}
 use Rattle.sst_merge.specs.FailureLaws.{is_memory, reports_itself, source_met}
 use Rattle.sst_merge.specs.Merge.{entry_cmp}
 use Rattle.sst_merge.specs.ErrorLaws.{among_left, among_right, met_under}
-use Rattle.sst_merge.specs.Movable.{item_before, seek_to, seek_up_to}
-use Rattle.sst_merge.specs.MovableBlocks.{AreEntryBlocks, TakesFirstOf, TakesLastOf, back_place, entries_before, front_place, is_block_sought, is_last_sought, window_of}
-use Rattle.sst_merge.specs.MovableTables.{AnyStepFails, AreTableEnds, GoesBack, GoesForth, IsBackAt, IsFrontAt, IsWholeBlock, KeepsTable, TableStops, block_reads, end_in, end_of, ends_with, errors_in, fit_blocks, have_ends, read_blocks, table_blocks, table_errors, table_moved, with_block}
-use Rattle.sst_merge.specs.Moved.{IsStep, MayStop, Moved, sought, step_back, step_front}
+use Rattle.sst_merge.specs.Movable.{is_sought, item_before, seek_to, seek_up_to}
+use Rattle.sst_merge.specs.MovableBlocks.{AreEntryBlocks, HoldsBack, HoldsFront, IsBackIn, IsFrontIn, TakesFirstOf, TakesLastOf, back_place, entries_before, entry_key, front_place, is_block_sought, is_last_sought, window_of}
+use Rattle.sst_merge.specs.MovableTables.{AnyStepFails, AreTableEnds, GoesBack, GoesForth, IsBackAt, IsFrontAt, IsWholeBlock, KeepsTable, OfBlocks, TableEnd, TableStops, block_reads, end_in, end_of, ends_with, errors_in, fit_blocks, have_ends, read_blocks, search_from, table_blocks, table_errors, table_moved, with_block}
+use Rattle.sst_merge.specs.Moved.{IsStep, MayStop, Moved, sought, step_back, step_front, unless_ended}
 use Rattle.sst_merge.specs.Sources.{IsAmong}
 use Rattle.sst_merge.specs.Stored.{MayFailAnyTime, reported}
 use Rattle.sst_merge.specs.TableReads.{passes_ordered}
-use Rattle.sst_merge.specs.declared.open_end.OpenEnd.{OpenEnd}
-use Rattle.sst_merge.proofs.BlockEnds.{back_at, back_before, back_held, front_at, front_held}
+use Rattle.sst_merge.proofs.BlockEnds.{back_at, back_before, back_held, back_item, back_none, front_at, front_held, front_item, front_none, left_from, left_later, left_up_to, left_same, none_at_end, none_earlier, none_same, some_in}
+use Rattle.sst_merge.proofs.BlockCounts.{stops}
+use Rattle.sst_merge.proofs.BlockPlaces.{before_all, before_none}
 use Rattle.sst_merge.proofs.MovedLaws.{moved_by}
 
 -- what holds of a value that may be known
@@ -117,6 +120,11 @@ read_there (r ∷ reads) blocks (suc i) items all at =
     let k = rest_read r (read_blocks reads) blocks all in
     ap (λ bs. slice_get bs (suc i)) (sym k.4) ∙ read_there reads k.1 i items k.3 at
 
+-- what holds at the handle at an index
+pub at_handle : (P : List ℕ → Handle → Type 0) (b : Option (List ℕ)) (index : List Handle) (i : ℕ) (h : Handle) → slice_get index i ≡ Some h → IfSome b (λ all. (g : Handle) → slice_get index i ≡ Some g → P all g) → IfSome b (λ all. P all h)
+at_handle P None index i h at holds = tt
+at_handle P (Some all) index i h at holds = holds h at
+
 -- what is read of a table whose bytes are known is the block there
 pub block_there : (c : Hashes) (b : Option (List ℕ)) (index : List Handle) (blocks : List (List Entry)) (i : ℕ) (h : Handle) (items : List Entry) → AreRead c b index blocks → slice_get index i ≡ Some h
     → IfSome b (λ all. block_items_at c all (range_of h) ≡ Ok items) → slice_get blocks i ≡ Some items
@@ -125,28 +133,24 @@ block_there c b index blocks i h items k at is =
     read_there (block_reads c k.bytes index) blocks i items k.read (mapped f index i h at ∙ ap Some (of_known (λ all. block_items_at c all (range_of h) ≡ Ok items) b k.bytes k.bytes_are is))
 
 -- A search over the handles is one over the blocks.
-abbrev pub bound_of : Bool → Option ℕ
-bound_of false = None
-bound_of true = Some 0
-
 module _ (needle : List ℕ) where
-  handle_passes : (at_most : Bool) (g : Handle) (o : Option Entry) → ends_with g o ≡ true → passes needle (bound_of at_most) (handles.key g) (handles.seqno g) ≡ is_last_sought needle at_most o
+  handle_passes : (at_most : Bool) (g : Handle) (o : Option Entry) → ends_with g o ≡ true → passes needle (search_from at_most) (handles.key g) (handles.seqno g) ≡ is_last_sought needle at_most o
   handle_passes at_most g None h = absurd (cc)
   handle_passes false g (Some e) h = below_is (slice_cmp nat_cmp g.end_key needle) g.seqno ∙ ap (λ k. is_lt (slice_cmp nat_cmp k needle)) (keys_equal g.end_key e.key.user_key h)
   handle_passes true g (Some e) h = up_to_is (slice_cmp nat_cmp g.end_key needle) g.seqno ∙ ap (λ k. is_le (slice_cmp nat_cmp k needle)) (keys_equal g.end_key e.key.user_key h)
 
   counts_same : (at_most : Bool) (index : List Handle) (blocks : List (List Entry)) → have_ends index blocks ≡ true
-      → count_by (λ g. passes needle (bound_of at_most) (handles.key g) (handles.seqno g)) index ≡ count_by (is_block_sought needle at_most) blocks
+      → count_by (λ g. passes needle (search_from at_most) (handles.key g) (handles.seqno g)) index ≡ count_by (is_block_sought needle at_most) blocks
   counts_same at_most [] [] h = refl
   counts_same at_most [] (b ∷ bs) h = absurd (cc)
   counts_same at_most (g ∷ index) [] h = absurd (cc)
   counts_same at_most (g ∷ index) (b ∷ bs) h =
       let k = and_parts (ends_with g (item_before b (length b))) (have_ends index bs) h in
-      sum_by-cons (λ y. cond (passes needle (bound_of at_most) (handles.key y) (handles.seqno y)) 1 0) g index
-      ∙ ap (λ t. cond t 1 0 + count_by (λ y. passes needle (bound_of at_most) (handles.key y) (handles.seqno y)) index) (handle_passes at_most g (item_before b (length b)) k.0)
+      sum_by-cons (λ y. cond (passes needle (search_from at_most) (handles.key y) (handles.seqno y)) 1 0) g index
+      ∙ ap (λ t. cond t 1 0 + count_by (λ y. passes needle (search_from at_most) (handles.key y) (handles.seqno y)) index) (handle_passes at_most g (item_before b (length b)) k.0)
       ∙ ap (λ n. cond (is_block_sought needle at_most b) 1 0 + n) (counts_same at_most index bs k.1) ∙ sym (sum_by-cons (λ y. cond (is_block_sought needle at_most y) 1 0) b bs)
 
-  pub passed_same : (at_most : Bool) (from : Option ℕ) (index : List Handle) (blocks : List (List Entry)) → from ≡ bound_of at_most → have_ends index blocks ≡ true → count_passed handles needle from index ≡ count_by (is_block_sought needle at_most) blocks
+  pub passed_same : (at_most : Bool) (from : Option ℕ) (index : List Handle) (blocks : List (List Entry)) → from ≡ search_from at_most → have_ends index blocks ≡ true → count_passed handles needle from index ≡ count_by (is_block_sought needle at_most) blocks
   unfolding count_passed
   passed_same at_most from index blocks is h = ap (λ o. count_by (λ g. passes needle o (handles.key g) (handles.seqno g)) index) is ∙ counts_same at_most index blocks h
 
@@ -167,7 +171,7 @@ module _ {S : Type 0} (is_reliable : S → Type 0) (s : S) (failed : Type 0) whe
     | inl m ↦ inl (inl m)
     | inr n ↦ elim (f n) [
       | inl g ↦ device (source_met is_reliable s failed (read ≡ Err BadHandle) (errors_in reads) e g
-      (λ o. error_there reads i BadHandle Io (at ∙ ap Some o) (inr (inl refl))) (λ o. error_there reads i BadHandle Truncated (at ∙ ap Some o) (inr (inr (inl refl)))))
+          (λ o. error_there reads i BadHandle Io (at ∙ ap Some o) (inr (inl refl))) (λ o. error_there reads i BadHandle Truncated (at ∙ ap Some o) (inr (inr (inl refl)))))
       | inr r ↦ inr (error_there reads i e e (at ∙ ap Some r) (reports_itself e))
     ]
   ]
@@ -184,11 +188,11 @@ module _ {S : Type 0} (is_reliable : S → Type 0) (s : S) (failed : Type 0) whe
   block_fails c (Some bytes) index i h e at f = fails_by (block_reads c bytes index) i (block_items_at c bytes (range_of h)) e (mapped (λ (g : Handle). block_items_at c bytes (range_of g)) index i h at) f
 
 -- What is held after a block was opened.
-whole_there : (blocks : List (List Entry)) (b : ℕ) (items views : List Entry) (o : Option OpenEnd) → slice_get blocks b ≡ Some items → TakesFirstOf b items views (end_in o) → IfSome o (λ e. e.left.window.list ≡ items) → IsWholeBlock blocks o
+whole_there : (blocks : List (List Entry)) (b : ℕ) (items views : List Entry) (o : Option TableEnd) → slice_get blocks b ≡ Some items → TakesFirstOf b items views (end_in o) → IfSome o (λ e. e.left.window.list ≡ items) → IsWholeBlock blocks o
 whole_there blocks b items views None here took is = tt
 whole_there blocks b items views (Some e) here took is = ap (slice_get blocks) took.0 ∙ here ∙ ap Some (sym is)
 
-pub front_opened : (blocks : List (List Entry)) (b n : ℕ) (items views : List Entry) (o : Option OpenEnd) → slice_get blocks b ≡ Some items → views ≡ drop n items → n < length items → TakesFirstOf b items views (end_in o) → IfSome o (λ e. e.left.window.list ≡ items)
+pub front_opened : (blocks : List (List Entry)) (b n : ℕ) (items views : List Entry) (o : Option TableEnd) → slice_get blocks b ≡ Some items → views ≡ drop n items → n < length items → TakesFirstOf b items views (end_in o) → IfSome o (λ e. e.left.window.list ≡ items)
     → IsFrontAt blocks (entries_before blocks b + n) o
 front_opened blocks b n items views o here is less took whole = record {
   holds = front_held blocks b items here n views (end_in o) is took;
@@ -200,13 +204,13 @@ front_opened blocks b n items views o here is less took whole = record {
 pub front_behind : (blocks : List (List Entry)) (b place : ℕ) → place ≡ length (joined blocks) → IsFrontAt blocks place None
 front_behind blocks b place is = record { holds = tt; whole = tt; place_is = sym is }
 
-pub back_opened : (blocks : List (List Entry)) (b : ℕ) (items views : List Entry) (o : Option OpenEnd) → slice_get blocks b ≡ Some items → views ≡ take (length items) items → 1 ≤ length items → TakesLastOf b views (end_in o) → IsBackAt blocks (entries_before blocks (suc b)) o
+pub back_opened : (blocks : List (List Entry)) (b : ℕ) (items views : List Entry) (o : Option TableEnd) → slice_get blocks b ≡ Some items → views ≡ take (length items) items → 1 ≤ length items → TakesLastOf b views (end_in o) → IsBackAt blocks (entries_before blocks (suc b)) o
 back_opened blocks b items views o here is some took = record {
   holds = back_held blocks b items here (length items) views (end_in o) is took;
   place_is = back_before blocks b items here views (end_in o) is took some;
 }
 
-pub back_sought : (blocks : List (List Entry)) (b n : ℕ) (items views : List Entry) (e : OpenEnd) → slice_get blocks b ≡ Some items → views ≡ take n items → n ≤ length items → TakesLastOf b views (Some (end_of e)) → IsBackAt blocks (entries_before blocks b + n) (Some e)
+pub back_sought : (blocks : List (List Entry)) (b n : ℕ) (items views : List Entry) (e : TableEnd) → slice_get blocks b ≡ Some items → views ≡ take n items → n ≤ length items → TakesLastOf b views (Some (end_of e)) → IsBackAt blocks (entries_before blocks b + n) (Some e)
 back_sought blocks b n items views e here is inside took = record {
   holds = back_held blocks b items here n views (Some (end_of e)) is took;
   place_is = back_at blocks b items here n views (end_of e) is took inside;
@@ -220,31 +224,31 @@ module _ {S : Type 0} (c : Hashes) (bytes : S → Option (List ℕ)) (t u : Tabl
   pub errors_same : table_errors c (bytes u.source) u.index ≡ table_errors c (bytes t.source) t.index
   errors_same = ap (λ b. table_errors c b u.index) keeps.same ∙ ap (λ (k : TableParts S). table_errors c (bytes t.source) k.index) keeps.kept
 
-abbrev window_at : Option OpenEnd → Option OpenEnd → List (List Entry) → Window Entry
+abbrev window_at : Option TableEnd → Option TableEnd → List (List Entry) → Window Entry
 window_at front back blocks = window_of blocks (end_in front) (end_in back)
 
-forth_by : (f g b : Option OpenEnd) (r : Option Entry) (o : Option (List (List Entry))) → IfSome o (GoesForth f g r)
+forth_by : (f g b : Option TableEnd) (r : Option Entry) (o : Option (List (List Entry))) → IfSome o (GoesForth f g r)
     → (option_map (window_at g b) o ≡ option_map (λ w. (step_front w).0) (option_map (window_at f b) o)) × IfSome (option_map (window_at f b) o) (λ w. item r ≡ (step_front w).1)
 forth_by f g b r None h = (refl, tt)
 forth_by f g b r (Some blocks) h =
     let to : ℕ → Option (Window Entry) = λ n. Some (record (window_at f b blocks) { lo = n }) in
     (ap to (h.front.place_is ∙ ap (λ x. front_place blocks (end_in f) + found_item x) h.item_is), ap item h.item_is)
 
-back_by : (f b d : Option OpenEnd) (r : Option Entry) (o : Option (List (List Entry))) → IfSome o (GoesBack b d r)
+back_by : (f b d : Option TableEnd) (r : Option Entry) (o : Option (List (List Entry))) → IfSome o (GoesBack b d r)
     → (option_map (window_at f d) o ≡ option_map (λ w. (step_back w).0) (option_map (window_at f b) o)) × IfSome (option_map (window_at f b) o) (λ w. item r ≡ (step_back w).1)
 back_by f b d r None h = (refl, tt)
 back_by f b d r (Some blocks) h =
     let to : ℕ → Option (Window Entry) = λ n. Some (record (window_at f b blocks) { hi = n }) in
     (ap to (h.back.place_is ∙ ap (λ x. back_place blocks (end_in b) - found_item x) h.item_is), ap item h.item_is)
 
-sought_by : (f g b : Option OpenEnd) (test : Entry → Bool) (o : Option (List (List Entry))) → IfSome o (λ blocks. IsFrontAt blocks (count_by test (joined blocks)) g)
+sought_by : (f g b : Option TableEnd) (test : Entry → Bool) (o : Option (List (List Entry))) → IfSome o (λ blocks. IsFrontAt blocks (count_by test (joined blocks)) g)
     → option_map (window_at g b) o ≡ option_map (seek_to test) (option_map (window_at f b) o)
 sought_by f g b test None h = refl
 sought_by f g b test (Some blocks) h =
     let to : ℕ → Option (Window Entry) = λ n. Some (record (window_at f b blocks) { lo = n }) in
     ap to h.place_is
 
-sought_up_by : (f b d : Option OpenEnd) (test : Entry → Bool) (o : Option (List (List Entry))) → IfSome o (λ blocks. IsBackAt blocks (count_by test (joined blocks)) d)
+sought_up_by : (f b d : Option TableEnd) (test : Entry → Bool) (o : Option (List (List Entry))) → IfSome o (λ blocks. IsBackAt blocks (count_by test (joined blocks)) d)
     → option_map (window_at f d) o ≡ option_map (seek_up_to test) (option_map (window_at f b) o)
 sought_up_by f b d test None h = refl
 sought_up_by f b d test (Some blocks) h =
@@ -252,30 +256,30 @@ sought_up_by f b d test (Some blocks) h =
     ap to h.place_is
 
 -- what is known of both ends, of which one was moved
-ends_by_front : (f g b : Option OpenEnd) (place : List (List Entry) → ℕ) (o : Option (List (List Entry))) → IfSome o (AreTableEnds f b) → IfSome o (λ blocks. IsFrontAt blocks (place blocks) g) → IfSome o (AreTableEnds g b)
+ends_by_front : (f g b : Option TableEnd) (place : List (List Entry) → ℕ) (o : Option (List (List Entry))) → IfSome o (AreTableEnds f b) → IfSome o (λ blocks. IsFrontAt blocks (place blocks) g) → IfSome o (AreTableEnds g b)
 ends_by_front f g b place None old new = tt
 ends_by_front f g b place (Some blocks) old new = record { front_holds = new.holds; front_whole = new.whole; back_holds = old.back_holds }
 
-ends_by_back : (f b d : Option OpenEnd) (place : List (List Entry) → ℕ) (o : Option (List (List Entry))) → IfSome o (AreTableEnds f b) → IfSome o (λ blocks. IsBackAt blocks (place blocks) d) → IfSome o (AreTableEnds f d)
+ends_by_back : (f b d : Option TableEnd) (place : List (List Entry) → ℕ) (o : Option (List (List Entry))) → IfSome o (AreTableEnds f b) → IfSome o (λ blocks. IsBackAt blocks (place blocks) d) → IfSome o (AreTableEnds f d)
 ends_by_back f b d place None old new = tt
 ends_by_back f b d place (Some blocks) old new = record { front_holds = old.front_holds; front_whole = old.front_whole; back_holds = new.holds }
 
-forth_front : (f g : Option OpenEnd) (r : Option Entry) (o : Option (List (List Entry))) → IfSome o (GoesForth f g r) → IfSome o (λ blocks. IsFrontAt blocks (front_place blocks (end_in f) + found_item r) g)
+forth_front : (f g : Option TableEnd) (r : Option Entry) (o : Option (List (List Entry))) → IfSome o (GoesForth f g r) → IfSome o (λ blocks. IsFrontAt blocks (front_place blocks (end_in f) + found_item r) g)
 forth_front f g r None h = tt
 forth_front f g r (Some blocks) h = h.front
 
-back_back : (b d : Option OpenEnd) (r : Option Entry) (o : Option (List (List Entry))) → IfSome o (GoesBack b d r) → IfSome o (λ blocks. IsBackAt blocks (back_place blocks (end_in b) - found_item r) d)
+back_back : (b d : Option TableEnd) (r : Option Entry) (o : Option (List (List Entry))) → IfSome o (GoesBack b d r) → IfSome o (λ blocks. IsBackAt blocks (back_place blocks (end_in b) - found_item r) d)
 back_back b d r None h = tt
 back_back b d r (Some blocks) h = h.back
 
-module _ {S : Type 0} (c : Hashes) (bytes : S → Option (List ℕ)) (t u : TableParts S) (keeps : KeepsTable bytes t u) (f b : Option OpenEnd) where
+module _ {S : Type 0} (c : Hashes) (bytes : S → Option (List ℕ)) (t u : TableParts S) (keeps : KeepsTable bytes t u) (f b : Option TableEnd) where
   abbrev known : Option (List (List Entry))
   known = table_blocks c (bytes t.source) t.index
 
   abbrev old : Moved Entry
   old = table_moved c bytes t f b None
 
-  pub steps_forth : (g : Option OpenEnd) (r : Option Entry) → IfSome known (GoesForth f g r) → IsStep step_front old r (table_moved c bytes u g b None)
+  pub steps_forth : (g : Option TableEnd) (r : Option Entry) → IfSome known (GoesForth f g r) → IsStep step_front old r (table_moved c bytes u g b None)
   steps_forth g r h =
       let k = forth_by f g b r known h in
       record {
@@ -283,7 +287,7 @@ module _ {S : Type 0} (c : Hashes) (bytes : S → Option (List ℕ)) (t u : Tabl
         item_is = k.1;
       }
 
-  pub steps_back : (d : Option OpenEnd) (r : Option Entry) → IfSome known (GoesBack b d r) → IsStep step_back old r (table_moved c bytes u f d None)
+  pub steps_back : (d : Option TableEnd) (r : Option Entry) → IfSome known (GoesBack b d r) → IsStep step_back old r (table_moved c bytes u f d None)
   steps_back d r h =
       let k = back_by f b d r known h in
       record {
@@ -291,28 +295,174 @@ module _ {S : Type 0} (c : Hashes) (bytes : S → Option (List ℕ)) (t u : Tabl
         item_is = k.1;
       }
 
-  pub seeks_forth : (g : Option OpenEnd) (test : Entry → Bool) → IfSome known (λ blocks. IsFrontAt blocks (count_by test (joined blocks)) g) → table_moved c bytes u g b None ≡ sought (seek_to test) old
+  pub seeks_forth : (g : Option TableEnd) (test : Entry → Bool) → IfSome known (λ blocks. IsFrontAt blocks (count_by test (joined blocks)) g) → table_moved c bytes u g b None ≡ sought (seek_to test) old
   seeks_forth g test h =
       moved_by (table_moved c bytes u g b None) (sought (seek_to test) old) (ap (option_map (window_at g b)) (blocks_same c bytes t u keeps) ∙ sought_by f g b test known h) (errors_same c bytes t u keeps) refl
 
-  pub seeks_up : (d : Option OpenEnd) (test : Entry → Bool) → IfSome known (λ blocks. IsBackAt blocks (count_by test (joined blocks)) d) → table_moved c bytes u f d None ≡ sought (seek_up_to test) old
+  pub seeks_up : (d : Option TableEnd) (test : Entry → Bool) → IfSome known (λ blocks. IsBackAt blocks (count_by test (joined blocks)) d) → table_moved c bytes u f d None ≡ sought (seek_up_to test) old
   seeks_up d test h =
       moved_by (table_moved c bytes u f d None) (sought (seek_up_to test) old) (ap (option_map (window_at f d)) (blocks_same c bytes t u keeps) ∙ sought_up_by f b d test known h) (errors_same c bytes t u keeps) refl
 
   -- the ends stay ends
-  pub kept_forth : (g : Option OpenEnd) (r : Option Entry) → IfSome known (AreTableEnds f b) → IfSome known (GoesForth f g r) → IfSome (table_blocks c (bytes u.source) u.index) (AreTableEnds g b)
+  pub kept_forth : (g : Option TableEnd) (r : Option Entry) → IfSome known (AreTableEnds f b) → IfSome known (GoesForth f g r) → IfSome (table_blocks c (bytes u.source) u.index) (AreTableEnds g b)
   kept_forth g r are h = subst (λ o. IfSome o (AreTableEnds g b)) (sym (blocks_same c bytes t u keeps)) (ends_by_front f g b (λ blocks. front_place blocks (end_in f) + found_item r) known are (forth_front f g r known h))
 
-  pub kept_back : (d : Option OpenEnd) (r : Option Entry) → IfSome known (AreTableEnds f b) → IfSome known (GoesBack b d r) → IfSome (table_blocks c (bytes u.source) u.index) (AreTableEnds f d)
+  pub kept_back : (d : Option TableEnd) (r : Option Entry) → IfSome known (AreTableEnds f b) → IfSome known (GoesBack b d r) → IfSome (table_blocks c (bytes u.source) u.index) (AreTableEnds f d)
   kept_back d r are h = subst (λ o. IfSome o (AreTableEnds f d)) (sym (blocks_same c bytes t u keeps)) (ends_by_back f b d (λ blocks. back_place blocks (end_in b) - found_item r) known are (back_back b d r known h))
 
-  pub kept_sought : (g : Option OpenEnd) (place : List (List Entry) → ℕ) → IfSome known (AreTableEnds f b) → IfSome known (λ blocks. IsFrontAt blocks (place blocks) g) → IfSome (table_blocks c (bytes u.source) u.index) (AreTableEnds g b)
+  pub kept_sought : (g : Option TableEnd) (place : List (List Entry) → ℕ) → IfSome known (AreTableEnds f b) → IfSome known (λ blocks. IsFrontAt blocks (place blocks) g) → IfSome (table_blocks c (bytes u.source) u.index) (AreTableEnds g b)
   kept_sought g place are h = subst (λ o. IfSome o (AreTableEnds g b)) (sym (blocks_same c bytes t u keeps)) (ends_by_front f g b place known are h)
 
-  pub kept_sought_up : (d : Option OpenEnd) (place : List (List Entry) → ℕ) → IfSome known (AreTableEnds f b) → IfSome known (λ blocks. IsBackAt blocks (place blocks) d) → IfSome (table_blocks c (bytes u.source) u.index) (AreTableEnds f d)
+  pub kept_sought_up : (d : Option TableEnd) (place : List (List Entry) → ℕ) → IfSome known (AreTableEnds f b) → IfSome known (λ blocks. IsBackAt blocks (place blocks) d) → IfSome (table_blocks c (bytes u.source) u.index) (AreTableEnds f d)
   kept_sought_up d place are h = subst (λ o. IfSome o (AreTableEnds f d)) (sym (blocks_same c bytes t u keeps)) (ends_by_back f b d place known are h)
 
 -- why a step of a table fails
-pub stops_as : {S : Type 0} (c : Hashes) (bytes : S → Option (List ℕ)) (is_reliable : S → Type 0) (t : TableParts S) (f b : Option OpenEnd) (e : Error) → TableStops c bytes is_reliable t e → MayStop (AnyStepFails is_reliable) (table_moved c bytes t f b None) e
+pub stops_as : {S : Type 0} (c : Hashes) (bytes : S → Option (List ℕ)) (is_reliable : S → Type 0) (t : TableParts S) (f b : Option TableEnd) (e : Error) → TableStops c bytes is_reliable t e → MayStop (AnyStepFails is_reliable) (table_moved c bytes t f b None) e
 stops_as c bytes is_reliable t f b e (inl any) = inl any
 stops_as c bytes is_reliable t f b e (inr met) = inr (met_under None (table_errors c (bytes t.source) t.index) e met)
+
+-- What is shown of a table.
+shown_by : (f b : Option TableEnd) (P : Window Entry → Type 0) (ended : Option Error) (o : Option (List (List Entry))) → IfSome (unless_ended ended o) (AreTableEnds f b) → ((blocks : List (List Entry)) → AreTableEnds f b blocks → P (window_at f b blocks)) → IfSome (unless_ended ended (option_map (window_at f b) o)) P
+shown_by f b P (Some e) o are h = tt
+shown_by f b P None None are h = tt
+shown_by f b P None (Some blocks) are h = h blocks are
+
+pub table_shown : {S : Type 0} (c : Hashes) (bytes : S → Option (List ℕ)) (t : TableParts S) (f b : Option TableEnd) (ended : Option Error) (all : Moved Entry) → table_moved c bytes t f b ended ≡ all
+    → IfSome (unless_ended ended (table_blocks c (bytes t.source) t.index)) (AreTableEnds f b) → (P : Window Entry → Type 0) → ((blocks : List (List Entry)) → AreTableEnds f b blocks → P (window_at f b blocks)) → IfSome all.window P
+table_shown c bytes t f b ended all is are P h = subst (λ (m : Moved Entry). IfSome m.window P) is (shown_by f b P ended (table_blocks c (bytes t.source) t.index) are h)
+
+module _ (f b : Option TableEnd) (blocks : List (List Entry)) (are : AreTableEnds f b blocks) where
+  pub front_shows : (x : TableEnd) → f ≡ Some x → Some x.held ≡ slice_get (joined blocks) (front_place blocks (end_in f))
+  front_shows x is = sym (front_item blocks (end_of x) (subst (λ o. HoldsFront blocks (end_in o)) is are.front_holds)) ∙ sym (ap (λ o. slice_get (joined blocks) (front_place blocks (end_in o))) is)
+
+  pub front_shows_none : f ≡ None → None ≡ slice_get (joined blocks) (front_place blocks (end_in f))
+  front_shows_none is = sym (front_none blocks) ∙ sym (ap (λ o. slice_get (joined blocks) (front_place blocks (end_in o))) is)
+
+  pub back_shows : (y : TableEnd) → b ≡ Some y → Some y.held ≡ item_before (joined blocks) (back_place blocks (end_in b))
+  back_shows y is = sym (back_item blocks (end_of y) (subst (λ o. HoldsBack blocks (end_in o)) is are.back_holds)) ∙ sym (ap (λ o. item_before (joined blocks) (back_place blocks (end_in o))) is)
+
+  pub none_at_front : f ≡ None → false ≡ nat_lt (front_place blocks (end_in f)) (back_place blocks (end_in b))
+  none_at_front is = sym (none_at_end blocks (end_in b) are.back_holds) ∙ sym (ap (λ o. nat_lt (front_place blocks (end_in o)) (back_place blocks (end_in b))) is)
+
+  module _ (x y : TableEnd) (front_is : f ≡ Some x) (back_is : b ≡ Some y) where
+    at_front : IsFrontIn blocks (end_of x)
+    at_front = subst (λ o. HoldsFront blocks (end_in o)) front_is are.front_holds
+
+    at_back : IsBackIn blocks (end_of y)
+    at_back = subst (λ o. HoldsBack blocks (end_in o)) back_is are.back_holds
+
+    places : nat_lt (front_place blocks (end_in f)) (back_place blocks (end_in b)) ≡ nat_lt (front_place blocks (Some (end_of x))) (back_place blocks (Some (end_of y)))
+    places = ap (λ o. nat_lt (front_place blocks (end_in o)) (back_place blocks (end_in b))) front_is ∙ ap (λ o. nat_lt (front_place blocks (Some (end_of x))) (back_place blocks (end_in o))) back_is
+
+    pub some_later : x.block < y.block → true ≡ nat_lt (front_place blocks (end_in f)) (back_place blocks (end_in b))
+    some_later less = sym (left_later blocks (end_of x) (end_of y) at_front at_back less) ∙ sym places
+
+    pub none_before : y.block < x.block → false ≡ nat_lt (front_place blocks (end_in f)) (back_place blocks (end_in b))
+    none_before more = sym (none_earlier blocks (end_of x) (end_of y) at_front at_back more) ∙ sym places
+
+    pub some_here : x.block ≡ y.block → x.at ≤ y.at → true ≡ nat_lt (front_place blocks (end_in f)) (back_place blocks (end_in b))
+    some_here same less = sym (left_same blocks (end_of x) (end_of y) at_front at_back same less) ∙ sym places
+
+    pub none_here : x.block ≡ y.block → y.at < x.at → false ≡ nat_lt (front_place blocks (end_in f)) (back_place blocks (end_in b))
+    none_here same more = sym (none_same blocks (end_of x) (end_of y) at_front at_back same more) ∙ sym places
+
+-- what holds of a result that is no error
+pub if_ok : {A : Type 0} (P Q : A → Type 0) (r : Result A Error) → ((a : A) → P a → Q a) → IfOk r P → IfOk r Q
+if_ok P Q (Ok a) f h = f a h
+if_ok P Q (Err e) f h = tt
+
+pub if_ok_both : {A : Type 0} (P R Q : A → Type 0) (r : Result A Error) → ((a : A) → P a → R a → Q a) → IfOk r P → IfOk r R → IfOk r Q
+if_ok_both P R Q (Ok a) f h k = f a h k
+if_ok_both P R Q (Err e) f h k = tt
+
+-- the entries of a block that was just opened
+pub whole_left : (w : Window Entry) → w ≡ whole w.list → items_left w ≡ drop 0 w.list
+whole_left w is = ap items_left is ∙ take_rest w.list 0
+
+pub all_left : (w : Window Entry) → w ≡ whole w.list → items_left w ≡ take (length w.list) w.list
+all_left w is = whole_left w is ∙ drop_none w.list ∙ sym (take_all (length w.list) w.list (omega arith))
+  where
+    drop_none : (xs : List Entry) → drop 0 xs ≡ xs
+    drop_none [] = refl
+    drop_none (x ∷ xs) = refl
+
+-- the front that is opened at a block
+pub opens_front : {S : Type 0} (c : Hashes) (bytes : S → Option (List ℕ)) (t : TableParts S) (i : ℕ) (w : Window Entry) (r : Result (Option TableEnd) Error) → OfBlocks c bytes t (λ blocks. slice_get blocks i ≡ Some w.list) → w ≡ whole w.list
+    → IfOk r (λ o. TakesFirstOf i w.list (items_left w) (end_in o)) → IfOk r (λ o. IfSome o (λ e. e.left.window.list ≡ w.list)) → IfOk r (λ o. OfBlocks c bytes t (λ blocks. IsFrontAt blocks (entries_before blocks i) o))
+opens_front c bytes t i w r here is took whole_list =
+    let b = bytes t.source in
+    if_ok_both (λ o. TakesFirstOf i w.list (items_left w) (end_in o)) (λ o. IfSome o (λ e. e.left.window.list ≡ w.list)) (λ o. OfBlocks c bytes t (λ blocks. IsFrontAt blocks (entries_before blocks i) o)) r
+    (λ o held all. for_known (λ blocks. IsFrontAt blocks (entries_before blocks i) o) (table_blocks c b t.index) (λ blocks known.
+    let at = of_known (λ bs. slice_get bs i ≡ Some w.list) (table_blocks c b t.index) blocks known here in
+    let k = are_read c b t.index blocks known in
+    let some = some_in blocks i w.list (are_blocks t.index blocks k.in_order k.ends).some at in
+    let e : entries_before blocks i + 0 ≡ entries_before blocks i = omega arith in
+    subst (λ n. IsFrontAt blocks n o) e (front_opened blocks i 0 w.list (items_left w) o at (whole_left w is) some held all)))
+    took whole_list
+
+-- or the back
+pub opens_back : {S : Type 0} (c : Hashes) (bytes : S → Option (List ℕ)) (t : TableParts S) (i n : ℕ) (w : Window Entry) (r : Result (Option TableEnd) Error) → suc i ≡ n → OfBlocks c bytes t (λ blocks. slice_get blocks i ≡ Some w.list) → w ≡ whole w.list
+    → IfOk r (λ o. TakesLastOf i (items_left w) (end_in o)) → IfOk r (λ o. OfBlocks c bytes t (λ blocks. n ≤ length blocks → IsBackAt blocks (entries_before blocks n) o))
+opens_back c bytes t i n w r next here is took =
+    let b = bytes t.source in
+    if_ok (λ o. TakesLastOf i (items_left w) (end_in o)) (λ o. OfBlocks c bytes t (λ blocks. n ≤ length blocks → IsBackAt blocks (entries_before blocks n) o)) r
+    (λ o held. for_known (λ blocks. n ≤ length blocks → IsBackAt blocks (entries_before blocks n) o) (table_blocks c b t.index) (λ blocks known inside.
+    let at = of_known (λ bs. slice_get bs i ≡ Some w.list) (table_blocks c b t.index) blocks known here in
+    let k = are_read c b t.index blocks known in
+    let some = some_in blocks i w.list (are_blocks t.index blocks k.in_order k.ends).some at in
+    subst (λ m. IsBackAt blocks (entries_before blocks m) o) next (back_opened blocks i w.list (items_left w) o at (all_left w is) some held)))
+    took
+
+-- there is no block to be opened
+pub no_front : {S : Type 0} (c : Hashes) (bytes : S → Option (List ℕ)) (t : TableParts S) (i : ℕ) → length t.index ≤ i → OfBlocks c bytes t (λ blocks. IsFrontAt blocks (entries_before blocks i) None)
+no_front c bytes t i behind =
+    let b = bytes t.source in
+    for_known (λ blocks. IsFrontAt blocks (entries_before blocks i) None) (table_blocks c b t.index) (λ blocks known.
+    let k = are_read c b t.index blocks known in
+    let n = as_many t.index blocks k.ends in
+    front_behind blocks i (entries_before blocks i) (before_all blocks i (omega (arith, n, behind))))
+
+pub no_back : {S : Type 0} (c : Hashes) (bytes : S → Option (List ℕ)) (t : TableParts S) (n : ℕ) → n ≡ 0 → OfBlocks c bytes t (λ blocks. n ≤ length blocks → IsBackAt blocks (entries_before blocks n) None)
+no_back c bytes t n zero_is =
+    for_known (λ blocks. n ≤ length blocks → IsBackAt blocks (entries_before blocks n) None) (table_blocks c (bytes t.source) t.index) (λ blocks known inside.
+    subst (λ m. IsBackAt blocks (entries_before blocks m) None) (sym zero_is) (record { holds = tt; place_is = sym (before_none blocks) }))
+
+pub no_back_behind : {S : Type 0} (c : Hashes) (bytes : S → Option (List ℕ)) (t : TableParts S) (n : ℕ) → length t.index < n → OfBlocks c bytes t (λ blocks. n ≤ length blocks → IsBackAt blocks (entries_before blocks n) None)
+no_back_behind c bytes t n behind =
+    let b = bytes t.source in
+    for_known (λ blocks. n ≤ length blocks → IsBackAt blocks (entries_before blocks n) None) (table_blocks c b t.index) (λ blocks known inside.
+    let k = are_read c b t.index blocks known in
+    let m = as_many t.index blocks k.ends in
+    absurd (omega (arith, m, behind, inside)))
+
+-- Searches.
+abbrev sought_count : List ℕ → Bool → List (List Entry) → ℕ
+sought_count key at_most blocks = count_by (is_sought entry_key key at_most) (joined blocks)
+
+pub sought_behind : {S : Type 0} (c : Hashes) (bytes : S → Option (List ℕ)) (t : TableParts S) (key : List ℕ) (i : ℕ) → OfBlocks c bytes t (λ blocks. i ≡ count_by (is_block_sought key false) blocks) → length t.index ≤ i
+    → OfBlocks c bytes t (λ blocks. IsFrontAt blocks (sought_count key false blocks) None)
+sought_behind c bytes t key i found behind =
+    let b = bytes t.source in
+    for_known (λ blocks. IsFrontAt blocks (sought_count key false blocks) None) (table_blocks c b t.index) (λ blocks known.
+    let k = are_read c b t.index blocks known in
+    let n = as_many t.index blocks k.ends in
+    let at = of_known (λ bs. i ≡ count_by (is_block_sought key false) bs) (table_blocks c b t.index) blocks known found in
+    front_behind blocks i (sought_count key false blocks) ((stops key false blocks (are_blocks t.index blocks k.in_order k.ends)).behind (omega (arith, n, at, behind))))
+
+pub sought_front : {S : Type 0} (c : Hashes) (bytes : S → Option (List ℕ)) (t : TableParts S) (key : List ℕ) (i : ℕ) (w v : Window Entry) (a : Answer Entry) (r : Result (Option TableEnd) Error)
+    → OfBlocks c bytes t (λ blocks. i ≡ count_by (is_block_sought key false) blocks) → OfBlocks c bytes t (λ blocks. slice_get blocks i ≡ Some w.list) → w ≡ whole w.list → (v, a) ≡ seek entries key w
+    → IfOk r (λ o. TakesFirstOf i v.list (items_left v) (end_in o)) → IfOk r (λ o. IfSome o (λ e. e.left.window.list ≡ v.list)) → IfOk r (λ o. OfBlocks c bytes t (λ blocks. IsFrontAt blocks (sought_count key false blocks) o))
+sought_front c bytes t key i w v a r found here is step took whole_list =
+    let b = bytes t.source in
+    let same : v.list ≡ w.list = ap (λ (p : Window Entry × Answer Entry). p.0.list) step in
+    if_ok_both (λ o. TakesFirstOf i v.list (items_left v) (end_in o)) (λ o. IfSome o (λ e. e.left.window.list ≡ v.list)) (λ o. OfBlocks c bytes t (λ blocks. IsFrontAt blocks (sought_count key false blocks) o)) r
+    (λ o held all. for_known (λ blocks. IsFrontAt blocks (sought_count key false blocks) o) (table_blocks c b t.index) (λ blocks known.
+    let k = are_read c b t.index blocks known in
+    let at = of_known (λ bs. slice_get bs i ≡ Some w.list) (table_blocks c b t.index) blocks known here in
+    let passed = of_known (λ bs. i ≡ count_by (is_block_sought key false) bs) (table_blocks c b t.index) blocks known found in
+    let n = count_by (is_sought entry_key key false) w.list in
+    let stop = (stops key false blocks (are_blocks t.index blocks k.in_order k.ends)).within w.list (ap (slice_get blocks) (sym passed) ∙ at) in
+    let place : entries_before blocks i + n ≡ sought_count key false blocks = ap (λ m. entries_before blocks m + n) passed ∙ sym stop.0 in
+    subst (λ m. IsFrontAt blocks m o) place
+    (front_opened blocks i n w.list (items_left v) o at (left_from key w.list w v a n is step refl) stop.1 (subst (λ xs. TakesFirstOf i xs (items_left v) (end_in o)) same held) (subst (λ xs. IfSome o (λ e. e.left.window.list ≡ xs)) same all))))
+    took whole_list

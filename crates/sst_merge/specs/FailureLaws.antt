@@ -48,7 +48,7 @@ is_io BadHandle = inr (λ h. cc)
 is_io Memory = inr (λ h. cc)
 
 -- each error may be reported as itself
-reports_itself : (e : Error) → IsAmong e (reported e)
+pub reports_itself : (e : Error) → IsAmong e (reported e)
 reports_itself Io = inl refl
 reports_itself (InvalidHeader n) = inl refl
 reports_itself (InvalidTag n t) = inl refl

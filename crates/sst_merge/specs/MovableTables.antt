@@ -9,7 +9,8 @@ use Rattle.sst_base.specs.declared.error.Error.{Error}
 use Rattle.sst_base.specs.declared.error.Error.TheVariants.{Memory}
 use Rattle.sst_block_core.specs.Checks.{is_in_order}
 use Rattle.sst_block_core.specs.Handles.{Handle}
-use Rattle.sst_block_core.specs.Window.{Window, items_left}
+use Rattle.sst_block_core.specs.Scan.{Scan}
+use Rattle.sst_block_core.specs.Window.{items_left}
 use Rattle.sstable_blocks.specs.Blocks.{joined}
 use Rattle.sstable_blocks.specs.Opened.{range_of}
 use Rattle.sstable_blocks.specs.RunReading.{Hashes, block_items_at}
@@ -48,6 +49,11 @@ have_ends [] (block ∷ blocks) = false
 have_ends (h ∷ index) [] = false
 have_ends (h ∷ index) (block ∷ blocks) = ends_with h (item_before block (length block)) && have_ends index blocks
 
+-- from which number on a search over the ends of blocks passes the sought key: from none, or from the least
+abbrev pub search_from : Bool → Option ℕ
+search_from false = None
+search_from true = Some 0
+
 -- blocks, where the entries of all are in order, and each ends with its handle's key
 abbrev pub fit_blocks : List Handle → Option (List (List Entry)) → Option (List (List Entry))
 fit_blocks index None = None
@@ -80,42 +86,46 @@ pub record KeepsTable {S : Type 0} (bytes : S → Option (List ℕ)) (old new : 
   pub kept : new ≡ record old { source = new.source }
   pub same : bytes new.source ≡ bytes old.source
 
+-- a block that is open at an end of a table
+abbrev pub TableEnd : Type 0
+TableEnd = OpenEnd (Scan Entry)
+
 -- what is held at an end, as at an end of blocks that are all open
-abbrev pub end_of : OpenEnd → Open
+abbrev pub end_of : TableEnd → Open
 end_of e = record { block = e.block; at = e.at; views = items_left e.left.window; held = e.held }
 
-abbrev pub end_in : Option OpenEnd → Option Open
+abbrev pub end_in : Option TableEnd → Option Open
 end_in None = None
 end_in (Some e) = Some (end_of e)
 
 -- the block that is open at an end is the one at its index, all of it
-abbrev pub IsWholeBlock : List (List Entry) → Option OpenEnd → Type 0
+abbrev pub IsWholeBlock : List (List Entry) → Option TableEnd → Type 0
 IsWholeBlock blocks None = Unit {0}
 IsWholeBlock blocks (Some e) = slice_get blocks e.block ≡ Some e.left.window.list
 
 -- the front of a table at a place of its list, and the back
-pub record IsFrontAt (blocks : List (List Entry)) (place : ℕ) (front : Option OpenEnd) : Type 0 where
+pub record IsFrontAt (blocks : List (List Entry)) (place : ℕ) (front : Option TableEnd) : Type 0 where
   pub holds : HoldsFront blocks (end_in front)
   pub whole : IsWholeBlock blocks front
   pub place_is : front_place blocks (end_in front) ≡ place
 
-pub record IsBackAt (blocks : List (List Entry)) (place : ℕ) (back : Option OpenEnd) : Type 0 where
+pub record IsBackAt (blocks : List (List Entry)) (place : ℕ) (back : Option TableEnd) : Type 0 where
   pub holds : HoldsBack blocks (end_in back)
   pub place_is : back_place blocks (end_in back) ≡ place
 
 -- the ends of a table
-pub record AreTableEnds (front back : Option OpenEnd) (blocks : List (List Entry)) : Type 0 where
+pub record AreTableEnds (front back : Option TableEnd) (blocks : List (List Entry)) : Type 0 where
   pub front_holds : HoldsFront blocks (end_in front)
   pub front_whole : IsWholeBlock blocks front
   pub back_holds : HoldsBack blocks (end_in back)
 
 -- the entry at the front is taken, and the front moved after it
-pub record GoesForth (old new : Option OpenEnd) (result : Option Entry) (blocks : List (List Entry)) : Type 0 where
+pub record GoesForth (old new : Option TableEnd) (result : Option Entry) (blocks : List (List Entry)) : Type 0 where
   pub item_is : result ≡ slice_get (joined blocks) (front_place blocks (end_in old))
   pub front : IsFrontAt blocks (front_place blocks (end_in old) + found_item result) new
 
 -- the entry before the back is taken, and the back moved before it
-pub record GoesBack (old new : Option OpenEnd) (result : Option Entry) (blocks : List (List Entry)) : Type 0 where
+pub record GoesBack (old new : Option TableEnd) (result : Option Entry) (blocks : List (List Entry)) : Type 0 where
   pub item_is : result ≡ item_before (joined blocks) (back_place blocks (end_in old))
   pub back : IsBackAt blocks (back_place blocks (end_in old) - found_item result) new
 
@@ -124,7 +134,7 @@ abbrev pub OfBlocks : {S : Type 0} → Hashes → (S → Option (List ℕ)) → 
 OfBlocks c bytes t holds = IfSome (table_blocks c (bytes t.source) t.index) holds
 
 -- a table whose ends were moved
-abbrev pub table_moved : {S : Type 0} → Hashes → (S → Option (List ℕ)) → TableParts S → Option OpenEnd → Option OpenEnd → Option Error → Moved Entry
+abbrev pub table_moved : {S : Type 0} → Hashes → (S → Option (List ℕ)) → TableParts S → Option TableEnd → Option TableEnd → Option Error → Moved Entry
 table_moved c bytes t front back ended = record {
   window = unless_ended ended (option_map (λ blocks. window_of blocks (end_in front) (end_in back)) (table_blocks c (bytes t.source) t.index));
   errors = table_errors c (bytes t.source) t.index;

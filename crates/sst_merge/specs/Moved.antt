@@ -16,6 +16,10 @@ pub record Moved (X : Type 0) : Type 0 where
   pub errors : Option (List Error)
   pub ended : Option Error
 
+-- a source in memory: its window is known, and reading it gives no error
+abbrev pub in_memory : {X : Type 0} → Window X → Moved X
+in_memory w = record { window = Some w; errors = Some []; ended = None }
+
 -- a window, an empty one where it is not known
 abbrev pub window_or_empty : {X : Type 0} → Option (Window X) → Window X
 window_or_empty None = whole []

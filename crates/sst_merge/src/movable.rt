@@ -1,6 +1,6 @@
 //! Ordered merges that are moved: taken from both ends, and sought in.
 ghost use Rattle.std.specs.Prelude.{◌≡◌, ◌+◌, ◌<◌, ℕ, List, length, map, slice_get, true};
-ghost use Rattle.std.specs.Prelude.{IfErr, IfOk, IfSome, Ok, OnErr, OnOk, Some, None};
+ghost use Rattle.std.specs.Prelude.{IfErr, IfOk, IfSome, None, OnErr, OnOk, Some, false};
 ghost use Rattle.std.specs.Cmp.Lexicographic.{slice_cmp};
 ghost use Rattle.std.specs.List.{AllByRecursion};
 ghost use Rattle.std.specs.Option.{option_map};
@@ -17,7 +17,7 @@ ghost use Rattle.sst_merge.specs.Moved.{IsFreshSource, IsStep, MayStop, Moved, S
 ghost use Rattle.sst_merge.specs.Moved.{merged_moved, sought, step_back, step_front, windows};
 
 use crate::ranked::Ranked;
-use crate::source::{keep_error, note_error};
+use crate::source::note_error;
 use sst_base::{Error, InternalValue, Result};
 use sst_block_core::table::data_block::EntryView;
 use std::alloc::Global;
@@ -234,8 +234,10 @@ fn seek_all<T: Keyed, I: Movable<T>>(alloc: Global, sources: &mut Vec<I>, key: &
 {
     let mut i = 0;
     while i < sources.len() {
-        sources[i].seek(alloc, key)?;
-        i += 1;
+        match sources[i].seek(alloc, key) {
+            Ok(()) => i += 1,
+            Err(error) => return Err(error),
+        }
     }
     Ok(())
 }
@@ -254,8 +256,10 @@ fn seek_upper_all<T: Keyed, I: Movable<T>>(
 {
     let mut i = 0;
     while i < sources.len() {
-        sources[i].seek_upper(alloc, key)?;
-        i += 1;
+        match sources[i].seek_upper(alloc, key) {
+            Ok(()) => i += 1,
+            Err(error) => return Err(error),
+        }
     }
     Ok(())
 }
@@ -402,9 +406,10 @@ impl<T: Keyed, I: Movable<T>> MovableMerge<T, I> {
         if let Some(error) = self.ended {
             return Err(error);
         }
-        let moved = seek_all::<T, I>(alloc, &mut self.sources, key);
-        keep_error(&mut self.ended, &moved);
-        moved
+        match seek_all::<T, I>(alloc, &mut self.sources, key) {
+            Ok(()) => Ok(()),
+            Err(error) => Err(note_error(&mut self.ended, &error)),
+        }
     }
 
     /// Moves the back after the last item of the whole list whose user key is at most `key`, also over
@@ -422,8 +427,9 @@ impl<T: Keyed, I: Movable<T>> MovableMerge<T, I> {
         if let Some(error) = self.ended {
             return Err(error);
         }
-        let moved = seek_upper_all::<T, I>(alloc, &mut self.sources, key);
-        keep_error(&mut self.ended, &moved);
-        moved
+        match seek_upper_all::<T, I>(alloc, &mut self.sources, key) {
+            Ok(()) => Ok(()),
+            Err(error) => Err(note_error(&mut self.ended, &error)),
+        }
     }
 }

@@ -1,6 +1,6 @@
 //! Ordered lists of entries in blocks, as sources that are moved.
 ghost use Rattle.std.specs.Prelude.{◌≡◌, ◌+◌, ◌<◌, ◌≤◌, count_by, drop, length, slice_get};
-ghost use Rattle.std.specs.Prelude.{[], None, Some, false, take, true, ℕ};
+ghost use Rattle.std.specs.Prelude.{false, take, true, ℕ};
 ghost use Rattle.sst_base.specs.Counted.{found_item};
 ghost use Rattle.sst_block_core.specs.Window.{whole};
 ghost use Rattle.sstable_blocks.specs.Blocks.{joined};
@@ -8,6 +8,7 @@ ghost use Rattle.sst_merge.specs.Movable.{is_sought, item_before};
 ghost use Rattle.sst_merge.specs.MovableBlocks.{AreEntryBlocks, HoldsBack, HoldsFront, TakesFirstOf};
 ghost use Rattle.sst_merge.specs.MovableBlocks.{TakesLastOf, back_place, entries_before, entry_key};
 ghost use Rattle.sst_merge.specs.MovableBlocks.{block_lists, front_place, is_block_sought};
+ghost use Rattle.sst_merge.specs.Moved.{in_memory};
 
 use crate::movable::Movable;
 use crate::movable_list::passes;
@@ -279,7 +280,7 @@ impl<'a, H: BlockHash> MovableBlocks<'a, H> {
 }
 
 impl<'a, H: BlockHash> Movable<EntryView<'a>> for MovableBlocks<'a, H> {
-    ghost moved = { λ s. record { window = Some s; errors = Some []; ended = None } };
+    ghost moved = { λ s. in_memory s };
 
     ghost may_fail = { λ _. ⊥ };
 

@@ -1,10 +1,11 @@
 //! Ordered lists in memory, as sources that are moved.
 ghost use Rattle.std.specs.Prelude.{◌≡◌, ◌+◌, ◌<◌, ◌≤◌, length, map, slice_get, slice_index};
-ghost use Rattle.std.specs.Prelude.{[], None, Some, count_by, suc};
+ghost use Rattle.std.specs.Prelude.{count_by, suc};
 ghost use Rattle.sst_block_core.specs.Entries.{entries};
 ghost use Rattle.sst_block_core.specs.Kind.{IsOrdered};
 ghost use Rattle.sst_block_core.specs.Window.{whole};
 ghost use Rattle.sst_merge.specs.Movable.{is_sought, item_before};
+ghost use Rattle.sst_merge.specs.Moved.{in_memory};
 
 use crate::movable::Movable;
 use sst_base::Result;
@@ -109,7 +110,7 @@ impl<'a, T: AsEntry> MovableList<'a, T> {
 }
 
 impl<'a, T: AsEntry> Movable<EntryView<'a>> for MovableList<'a, T> {
-    ghost moved = { λ l. record { window = Some l; errors = Some []; ended = None } };
+    ghost moved = { λ l. in_memory l };
 
     ghost may_fail = { λ _. ⊥ };
 

@@ -13,8 +13,8 @@ ghost use Rattle.sst_merge.specs.MovableBlocks.{HoldsBack, HoldsFront, TakesFirs
 ghost use Rattle.sst_merge.specs.MovableBlocks.{entries_before, entry_key, is_block_sought};
 ghost use Rattle.sst_merge.specs.MovableTables.{AnyStepFails, GoesBack, GoesForth, IsBackAt};
 ghost use Rattle.sst_merge.specs.MovableTables.{IsFrontAt, IsWholeBlock, KeepsTable, OfBlocks};
-ghost use Rattle.sst_merge.specs.MovableTables.{TableStops, end_in, table_blocks, table_errors};
-ghost use Rattle.sst_merge.specs.MovableTables.{table_moved};
+ghost use Rattle.sst_merge.specs.MovableTables.{TableStops, end_in, search_from, table_blocks};
+ghost use Rattle.sst_merge.specs.MovableTables.{table_errors, table_moved};
 ghost use Rattle.sst_merge.specs.Moved.{IsFreshSource};
 
 use crate::movable::Movable;
@@ -33,7 +33,7 @@ fn hold_first<H: BlockHash>(
     alloc: Global,
     index: usize,
     mut left: IntoEntries<H>,
-) -> Result<Option<OpenEnd<H>>>
+) -> Result<Option<OpenEnd<IntoEntries<H>>>>
     requires few { index + 1 < 2 ^ 64 }
     requires end { left.window.hi ≡ length left.window.list }
     ensures held { IfOk result
@@ -58,7 +58,7 @@ fn hold_last<H: BlockHash>(
     alloc: Global,
     index: usize,
     mut left: IntoEntries<H>,
-) -> Result<Option<OpenEnd<H>>>
+) -> Result<Option<OpenEnd<IntoEntries<H>>>>
     requires { index + 1 < 2 ^ 64 }
     ensures held { IfOk result (λ o. TakesLastOf index (items_left left.window) (end_in o)) }
     ensures memory { IsOkUnless result Memory }
@@ -76,7 +76,7 @@ fn hold_last<H: BlockHash>(
 }
 
 // The entry that was held at an end.
-fn held_of<H: BlockHash>(end: Option<OpenEnd<H>>) -> Option<InternalValue>
+fn held_of<H: BlockHash>(end: Option<OpenEnd<IntoEntries<H>>>) -> Option<InternalValue>
     ensures { result ≡ option_map (λ e. e.held) end }
 {
     match end {
@@ -99,8 +99,10 @@ fn entries_at<H: BlockHash, S: FrameSource>(
     ensures cause { IfErr result
         (TableStops (hashes H.hash64 H.hash128) S.bytes S.is_reliable table.old) }
 {
-    let block = table.block_at(alloc, index, &mut Steps::new())?;
-    Ok(block.into_entries())
+    match table.block_at(alloc, index, &mut Steps::new()) {
+        Ok(block) => Ok(block.into_entries()),
+        Err(error) => Err(error),
+    }
 }
 
 // Opens the block at an index at its first entry, if there is such a block.
@@ -108,7 +110,7 @@ fn open_front<H: BlockHash, S: FrameSource>(
     alloc: Global,
     table: &mut Table<H, S>,
     index: usize,
-) -> Result<Option<OpenEnd<H>>>
+) -> Result<Option<OpenEnd<IntoEntries<H>>>>
     ensures same { KeepsTable S.bytes table.old table.new }
     ensures front { IfOk result (λ o. OfBlocks (hashes H.hash64 H.hash128) S.bytes table.old
         (λ blocks. IsFrontAt blocks (entries_before blocks index) o)) }
@@ -127,18 +129,33 @@ fn open_back<H: BlockHash, S: FrameSource>(
     alloc: Global,
     table: &mut Table<H, S>,
     index: usize,
-) -> Result<Option<OpenEnd<H>>>
+) -> Result<Option<OpenEnd<IntoEntries<H>>>>
     ensures same { KeepsTable S.bytes table.old table.new }
     ensures back { IfOk result (λ o. OfBlocks (hashes H.hash64 H.hash128) S.bytes table.old
         (λ blocks. index ≤ length blocks → IsBackAt blocks (entries_before blocks index) o)) }
     ensures cause { IfErr result
         (TableStops (hashes H.hash64 H.hash128) S.bytes S.is_reliable table.old) }
 {
-    if index == 0 || index > table.index().len() {
+    if index == 0 {
+        return Ok(None);
+    }
+    if index > table.index().len() {
         return Ok(None);
     }
     let left = entries_at(alloc, table, index - 1)?;
     hold_last(alloc, index - 1, left)
+}
+
+// The bound of a search for a user key, which passes the keys below it, or, with `at_most`, it too.
+fn bound_of(key: &[u8], at_most: bool) -> Bound<'_>
+    ensures needle { result.needle.now ≡ key.now }
+    ensures from { result.from ≡ search_from at_most }
+{
+    if at_most {
+        Bound::up_to(key)
+    } else {
+        Bound::below(key)
+    }
 }
 
 // How many blocks a search for a user key passes: those whose last key sorts before it, or, with
@@ -151,12 +168,9 @@ fn blocks_passed<H: BlockHash, S: FrameSource>(
     ensures { OfBlocks (hashes H.hash64 H.hash128) S.bytes table.now
         (λ blocks. result ≡ count_by (is_block_sought key.now at_most) blocks) }
 {
-    let bound = if at_most {
-        Bound::up_to(key)
-    } else {
-        Bound::below(key)
-    };
-    table.index().position(&bound, &mut Steps::new())
+    table
+        .index()
+        .position(&bound_of(key, at_most), &mut Steps::new())
 }
 
 // Opens the block of the first entry whose user key is at least a key, at that entry, if there is one.
@@ -164,7 +178,7 @@ fn seek_front<H: BlockHash, S: FrameSource>(
     alloc: Global,
     table: &mut Table<H, S>,
     key: &[u8],
-) -> Result<Option<OpenEnd<H>>>
+) -> Result<Option<OpenEnd<IntoEntries<H>>>>
     ensures same { KeepsTable S.bytes table.old table.new }
     ensures front { IfOk result (λ o. OfBlocks (hashes H.hash64 H.hash128) S.bytes table.old
         (λ blocks. IsFrontAt blocks
@@ -186,7 +200,7 @@ fn seek_back<H: BlockHash, S: FrameSource>(
     alloc: Global,
     table: &mut Table<H, S>,
     key: &[u8],
-) -> Result<Option<OpenEnd<H>>>
+) -> Result<Option<OpenEnd<IntoEntries<H>>>>
     ensures same { KeepsTable S.bytes table.old table.new }
     ensures back { IfOk result (λ o. OfBlocks (hashes H.hash64 H.hash128) S.bytes table.old
         (λ blocks. IsBackAt blocks
@@ -209,7 +223,7 @@ fn seek_back<H: BlockHash, S: FrameSource>(
 fn go_forth<H: BlockHash, S: FrameSource>(
     alloc: Global,
     table: &mut Table<H, S>,
-    front: &mut Option<OpenEnd<H>>,
+    front: &mut Option<OpenEnd<IntoEntries<H>>>,
 ) -> Result<Option<InternalValue>>
     requires holds { OfBlocks (hashes H.hash64 H.hash128) S.bytes table.old
         (λ blocks. HoldsFront blocks (end_in front.old)) }
@@ -236,7 +250,7 @@ fn go_forth<H: BlockHash, S: FrameSource>(
 fn go_back<H: BlockHash, S: FrameSource>(
     alloc: Global,
     table: &mut Table<H, S>,
-    back: &mut Option<OpenEnd<H>>,
+    back: &mut Option<OpenEnd<IntoEntries<H>>>,
 ) -> Result<Option<InternalValue>>
     requires { OfBlocks (hashes H.hash64 H.hash128) S.bytes table.old
         (λ blocks. HoldsBack blocks (end_in back.old)) }
@@ -267,8 +281,8 @@ fn go_back<H: BlockHash, S: FrameSource>(
 #[derive(Drop)]
 pub struct MovableTable<H: BlockHash, S: FrameSource> {
     table: Table<H, S>,
-    front: Option<OpenEnd<H>>,
-    back: Option<OpenEnd<H>>,
+    front: Option<OpenEnd<IntoEntries<H>>>,
+    back: Option<OpenEnd<IntoEntries<H>>>,
     ended: Option<Error>,
 }
 
@@ -289,7 +303,7 @@ impl<H: BlockHash, S: FrameSource> Model for MovableTable<H, S> {
         (AreTableEnds t.front t.back) };
 }
 
-impl<H: BlockHash, S: FrameSource> MovableTable<H, S> {
+impl<H: BlockHash, S: FrameSource + Drop> MovableTable<H, S> {
     /// Opens the first and the last block of a table. The ends are those of its list.
     ///
     /// # Errors

@@ -1,16 +1,15 @@
 //! A block of a table that is open at an end.
 ghost use Rattle.std.specs.Prelude.{◌+◌, ◌<◌, ◌^◌};
 
-use sst_base::{BlockHash, InternalValue};
-use sst_block_core::table::data_block::IntoEntries;
+use sst_base::InternalValue;
 
 /// A block that was opened at an end of a table: its index, the index in it of the entry that is
 /// held, the entries that are left of it, and that entry.
 #[derive(Drop)]
-pub(crate) struct OpenEnd<H: BlockHash> {
+pub(crate) struct OpenEnd<E> {
     pub(crate) block: usize,
     pub(crate) at: usize,
-    pub(crate) left: IntoEntries<H>,
+    pub(crate) left: E,
     pub(crate) held: InternalValue,
     ghost few: { block + 1 < 2 ^ 64 },
 }
