@@ -1,8 +1,10 @@
 -- Laws of tables whose ends are moved: of their blocks, where they are known, and of the errors of reading them.
-use Rattle.std.proofs.Common.{◌≡◌, ◌≢◌, ℕ, zero, suc, ◌+◌, ◌-◌, ◌<◌, ◌≤◌, ◌^◌, Bool, true, false, cond, nat_lt, List, [], ◌∷◌, ◌++◌, length, map, drop, take, Option, Some, None, Result, Ok, Err, slice_get, refl, sym, ap, subst, ◌∙◌, inl, inr, ◌⊎◌, arith}
-use Rattle.std.proofs.lemmas.List.{take_all, take_rest}
+use Rattle.std.proofs.Common.{◌≡◌, ◌≢◌, ℕ, zero, suc, ◌+◌, ◌-◌, ◌<◌, ◌≤◌, ◌^◌, Bool, true, false, cond, nat_lt, List, [], ◌∷◌, ◌++◌, length, map, drop, take, Option, Some, None, Result, Ok, Err, slice_get, refl, sym, ap, subst, ◌∙◌, inl, inr, ◌⊎◌, arith, length-append, length-drop}
+use Rattle.std.proofs.lemmas.List.{length-take-le, take_all, take_rest}
 use Rattle.std.proofs.lemmas.List.Sums.{count_by-le-length, sum_by-cons}
+use Rattle.std.proofs.lemmas.Option.{slice_get_within}
 use Rattle.std.specs.Cmp.Lexicographic.{slice_cmp}
+use Rattle.std.specs.Iterator.{YieldsFirst, YieldsLast}
 use Rattle.std.specs.List.{AllByRecursion, count_by}
 use Rattle.std.specs.Option.{IfSome, option_map}
 use Rattle.std.specs.Result.{IfOk}
@@ -28,14 +30,14 @@ use Rattle.sstable_blocks.specs.Tables.{TableParts}
 use Rattle.sst_merge.specs.FailureLaws.{is_memory, reports_itself, source_met}
 use Rattle.sst_merge.specs.Merge.{entry_cmp}
 use Rattle.sst_merge.specs.ErrorLaws.{among_left, among_right, met_under}
-use Rattle.sst_merge.specs.Movable.{is_sought, item_before, seek_to, seek_up_to}
+use Rattle.sst_merge.specs.Movable.{IsFresh, is_sought, item_before, seek_to, seek_up_to}
 use Rattle.sst_merge.specs.MovableBlocks.{AreEntryBlocks, HoldsBack, HoldsFront, IsBackIn, IsFrontIn, TakesFirstOf, TakesLastOf, back_place, entries_before, entry_key, front_place, is_block_sought, is_last_sought, window_of}
 use Rattle.sst_merge.specs.MovableTables.{AnyStepFails, AreTableEnds, GoesBack, GoesForth, IsBackAt, IsFrontAt, IsWholeBlock, KeepsTable, OfBlocks, TableEnd, TableStops, block_reads, end_in, end_of, ends_with, errors_in, fit_blocks, have_ends, read_blocks, search_from, table_blocks, table_errors, table_moved, with_block}
 use Rattle.sst_merge.specs.Moved.{IsStep, MayStop, Moved, sought, step_back, step_front, unless_ended}
 use Rattle.sst_merge.specs.Sources.{IsAmong}
 use Rattle.sst_merge.specs.Stored.{MayFailAnyTime, reported}
 use Rattle.sst_merge.specs.TableReads.{passes_ordered}
-use Rattle.sst_merge.proofs.BlockEnds.{back_at, back_before, back_held, back_item, back_none, front_at, front_held, front_item, front_none, left_from, left_later, left_up_to, left_same, none_at_end, none_earlier, none_same, some_in}
+use Rattle.sst_merge.proofs.BlockEnds.{back_at, back_before, back_block, back_ends, back_held, back_item, back_more, back_none, front_at, front_ends, front_held, front_item, front_more, front_none, left_from, left_later, left_up_to, left_same, none_at_end, none_earlier, none_same, some_in}
 use Rattle.sst_merge.proofs.BlockCounts.{stops}
 use Rattle.sst_merge.proofs.BlockPlaces.{before_all, before_none}
 use Rattle.sst_merge.proofs.MovedLaws.{moved_by}
@@ -466,3 +468,214 @@ sought_front c bytes t key i w v a r found here is step took whole_list =
     subst (λ m. IsFrontAt blocks m o) place
     (front_opened blocks i n w.list (items_left v) o at (left_from key w.list w v a n is step refl) stop.1 (subst (λ xs. TakesFirstOf i xs (items_left v) (end_in o)) same held) (subst (λ xs. IfSome o (λ e. e.left.window.list ≡ xs)) same all))))
     took whole_list
+
+module _ {S : Type 0} (c : Hashes) (bytes : S → Option (List ℕ)) (t : TableParts S) (key : List ℕ) (i : ℕ) (found : OfBlocks c bytes t (λ blocks. i ≡ count_by (is_block_sought key true) blocks)) where
+  abbrev the_blocks : Option (List (List Entry))
+  the_blocks = table_blocks c (bytes t.source) t.index
+
+  stop_at : (blocks : List (List Entry)) → the_blocks ≡ Some blocks → (i ≡ count_by (is_block_sought key true) blocks) × AreEntryBlocks blocks × (length blocks ≡ length t.index)
+  stop_at blocks known =
+      let k = are_read c (bytes t.source) t.index blocks known in
+      (of_known (λ bs. i ≡ count_by (is_block_sought key true) bs) the_blocks blocks known found, are_blocks t.index blocks k.in_order k.ends, as_many t.index blocks k.ends)
+
+  -- all blocks are passed
+  pub sought_whole : (r : Result (Option TableEnd) Error) → length t.index ≤ i → IfOk r (λ o. OfBlocks c bytes t (λ blocks. i ≤ length blocks → IsBackAt blocks (entries_before blocks i) o)) → IfOk r (λ o. OfBlocks c bytes t (λ blocks. IsBackAt blocks (sought_count key true blocks) o))
+  sought_whole r behind opened =
+      if_ok (λ o. OfBlocks c bytes t (λ blocks. i ≤ length blocks → IsBackAt blocks (entries_before blocks i) o)) (λ o. OfBlocks c bytes t (λ blocks. IsBackAt blocks (sought_count key true blocks) o)) r
+      (λ o h. for_known (λ blocks. IsBackAt blocks (sought_count key true blocks) o) the_blocks (λ blocks known.
+      let k = stop_at blocks known in
+      let most = count_by-le-length (is_block_sought key true) blocks in
+      let inside : i ≤ length blocks = (let e = k.0 in omega (arith, e, most)) in
+      let past : length blocks ≤ i = (let e = k.2 in omega (arith, e, behind)) in
+      let place : entries_before blocks i ≡ sought_count key true blocks = before_all blocks i past ∙ sym ((stops key true blocks k.1).behind (let e = k.0 in omega (arith, e, past))) in
+      subst (λ m. IsBackAt blocks m o) place (of_known (λ bs. i ≤ length bs → IsBackAt bs (entries_before bs i) o) the_blocks blocks known h inside)))
+      opened
+
+  module _ (w v : Window Entry) (a : Answer Entry) (here : OfBlocks c bytes t (λ blocks. slice_get blocks i ≡ Some w.list)) (is : w ≡ whole w.list) (step : (v, a) ≡ seek_upper entries key w) where
+    abbrev passed_here : ℕ
+    passed_here = count_by (is_sought entry_key key true) w.list
+
+    within_here : (blocks : List (List Entry)) → the_blocks ≡ Some blocks → (slice_get blocks i ≡ Some w.list) × (sought_count key true blocks ≡ entries_before blocks i + passed_here)
+    within_here blocks known =
+        let k = stop_at blocks known in
+        let at = of_known (λ bs. slice_get bs i ≡ Some w.list) the_blocks blocks known here in
+        let stop = (stops key true blocks k.1).within w.list (ap (slice_get blocks) (sym k.0) ∙ at) in
+        (at, stop.0 ∙ ap (λ m. entries_before blocks m + passed_here) (sym k.0))
+
+    -- the block at which the search stops has such an entry
+    pub sought_some : (o : Option TableEnd) (e : TableEnd) → o ≡ Some e → TakesLastOf i (items_left v) (end_in o) → OfBlocks c bytes t (λ blocks. IsBackAt blocks (sought_count key true blocks) (Some e))
+    sought_some o e o_is took = for_known (λ blocks. IsBackAt blocks (sought_count key true blocks) (Some e)) the_blocks (λ blocks known.
+        let k = within_here blocks known in
+        subst (λ m. IsBackAt blocks m (Some e)) (sym k.1)
+        (back_sought blocks i passed_here w.list (items_left v) e k.0 (left_up_to key w.list w v a passed_here is step refl) (count_by-le-length (is_sought entry_key key true) w.list) (subst (λ q. TakesLastOf i (items_left v) (end_in q)) o_is took)))
+
+    -- or it has none, and the block before it ends with one
+    pub sought_none : (u : TableParts S) (keeps : KeepsTable bytes t u) (o : Option TableEnd) (r : Result (Option TableEnd) Error) → o ≡ None → TakesLastOf i (items_left v) (end_in o) → IfOk r (λ q. OfBlocks c bytes u (λ blocks. i ≤ length blocks → IsBackAt blocks (entries_before blocks i) q))
+        → IfOk r (λ q. OfBlocks c bytes t (λ blocks. IsBackAt blocks (sought_count key true blocks) q))
+    sought_none u keeps o r o_is took opened =
+        if_ok (λ q. OfBlocks c bytes u (λ blocks. i ≤ length blocks → IsBackAt blocks (entries_before blocks i) q)) (λ q. OfBlocks c bytes t (λ blocks. IsBackAt blocks (sought_count key true blocks) q)) r
+        (λ q h. for_known (λ blocks. IsBackAt blocks (sought_count key true blocks) q) the_blocks (λ blocks known.
+        let k = within_here blocks known in
+        let m = stop_at blocks known in
+        let some = some_in blocks i w.list m.1.some k.0 in
+        let none = back_none blocks i w.list k.0 passed_here (items_left v) (left_up_to key w.list w v a passed_here is step refl) (subst (λ p. TakesLastOf i (items_left v) (end_in p)) o_is took) some (count_by-le-length (is_sought entry_key key true) w.list) in
+        let inside = slice_get_within blocks i w.list k.0 in
+        let place : entries_before blocks i ≡ sought_count key true blocks = (let e = k.1 in omega (arith, e, none)) in
+        subst (λ n. IsBackAt blocks n q) place (of_known (λ bs. i ≤ length bs → IsBackAt bs (entries_before bs i) q) (table_blocks c (bytes u.source) u.index) blocks (blocks_same c bytes t u keeps ∙ known) h (omega (arith, inside)))))
+        opened
+
+-- The steps of the ends.
+module _ {S : Type 0} (c : Hashes) (bytes : S → Option (List ℕ)) (t : TableParts S) where
+  abbrev all_blocks : Option (List (List Entry))
+  all_blocks = table_blocks c (bytes t.source) t.index
+
+  -- an entry is left in the block
+  pub forth_more : (f : Option TableEnd) (x y : TableEnd) (r z : Entry) → f ≡ Some x → OfBlocks c bytes t (λ blocks. HoldsFront blocks (end_in f)) → OfBlocks c bytes t (λ blocks. IsWholeBlock blocks f)
+      → items_left x.left.window ≡ z ∷ items_left y.left.window → y.left.window.list ≡ x.left.window.list → y.block ≡ x.block → y.at ≡ length y.left.window.list - length (items_left y.left.window) - 1 → y.held ≡ z → r ≡ x.held
+      → OfBlocks c bytes t (GoesForth f (Some y) (Some r))
+  forth_more f x y r z f_is holds is_whole left same block at held given = for_known (GoesForth f (Some y) (Some r)) all_blocks (λ blocks known.
+      let h : IsFrontIn blocks (end_of x) = subst (λ o. HoldsFront blocks (end_in o)) f_is (of_known (λ bs. HoldsFront bs (end_in f)) all_blocks blocks known holds) in
+      let w : slice_get blocks x.block ≡ Some x.left.window.list = subst (IsWholeBlock blocks) f_is (of_known (λ bs. IsWholeBlock bs f) all_blocks blocks known is_whole) in
+      let items : h.items ≡ x.left.window.list = some_is h.items x.left.window.list (sym h.block_is ∙ w) in
+      let inside = slice_get_within h.items x.at x.held h.held_is in
+      let size = ap length h.views_is in
+      let rest = length-drop (suc x.at) h.items in
+      let more = ap length left in
+      let list = ap length items in
+      let listed = ap length same in
+      let place : y.at ≡ x.at + 1 = omega (arith, inside, size, rest, more, list, listed, at) in
+      let here = ap (λ o. front_place blocks (end_in o)) f_is in
+      let before = ap (entries_before blocks) block in
+      record {
+        item_is = ap Some given ∙ sym (front_item blocks (end_of x) h) ∙ sym (ap (slice_get (joined blocks)) here);
+        front = record {
+          holds = front_more blocks (end_of x) z (items_left y.left.window) (end_of y) h left block place refl held;
+          whole = ap (slice_get blocks) block ∙ w ∙ ap Some (sym same);
+          place_is = omega (arith, place, here, before);
+        };
+      })
+
+  -- or the next block is opened
+  pub forth_next : (f g : Option TableEnd) (x : TableEnd) (r : Option Entry) → f ≡ Some x → OfBlocks c bytes t (λ blocks. HoldsFront blocks (end_in f)) → items_left x.left.window ≡ [] → OfBlocks c bytes t (λ blocks. IsFrontAt blocks (entries_before blocks (x.block + 1)) g) → r ≡ Some x.held
+      → OfBlocks c bytes t (GoesForth f g r)
+  forth_next f g x r f_is holds left opened given = for_known (GoesForth f g r) all_blocks (λ blocks known.
+      let h : IsFrontIn blocks (end_of x) = subst (λ o. HoldsFront blocks (end_in o)) f_is (of_known (λ bs. HoldsFront bs (end_in f)) all_blocks blocks known holds) in
+      let here = ap (λ o. front_place blocks (end_in o)) f_is in
+      let one : found_item r ≡ 1 = ap (λ (o : Option Entry). found_item o) given in
+      let e = front_ends blocks (end_of x) h left in
+      let place : entries_before blocks (x.block + 1) ≡ front_place blocks (end_in f) + found_item r = omega (arith, here, one, e) in
+      record {
+        item_is = given ∙ sym (front_item blocks (end_of x) h) ∙ sym (ap (slice_get (joined blocks)) here);
+        front = subst (λ n. IsFrontAt blocks n g) place (of_known (λ bs. IsFrontAt bs (entries_before bs (x.block + 1)) g) all_blocks blocks known opened);
+      })
+
+  -- the same from the back
+  pub back_more_left : (b : Option TableEnd) (x y : TableEnd) (r z : Entry) → b ≡ Some x → OfBlocks c bytes t (λ blocks. HoldsBack blocks (end_in b)) → items_left x.left.window ≡ items_left y.left.window ++ z ∷ [] → y.block ≡ x.block → y.at ≡ length (items_left y.left.window) → y.held ≡ z → r ≡ x.held
+      → OfBlocks c bytes t (GoesBack b (Some y) (Some r))
+  back_more_left b x y r z b_is holds left block at held given = for_known (GoesBack b (Some y) (Some r)) all_blocks (λ blocks known.
+      let h : IsBackIn blocks (end_of x) = subst (λ o. HoldsBack blocks (end_in o)) b_is (of_known (λ bs. HoldsBack bs (end_in b)) all_blocks blocks known holds) in
+      let inside = slice_get_within h.items x.at x.held h.held_is in
+      let size = ap length h.views_is in
+      let rest = length-take-le x.at h.items (omega (arith, inside)) in
+      let more = ap length left in
+      let long = length-append (items_left y.left.window) (z ∷ []) in
+      let place : y.at + 1 ≡ x.at = omega (arith, size, rest, more, long, at) in
+      let here = ap (λ o. back_place blocks (end_in o)) b_is in
+      let before = ap (entries_before blocks) block in
+      record {
+        item_is = ap Some given ∙ sym (back_item blocks (end_of x) h) ∙ sym (ap (item_before (joined blocks)) here);
+        back = record {
+          holds = back_more blocks (end_of x) z (items_left y.left.window) (end_of y) h left block place refl held;
+          place_is = omega (arith, place, here, before);
+        };
+      })
+
+  pub back_next : (b d : Option TableEnd) (x : TableEnd) (r : Option Entry) → b ≡ Some x → OfBlocks c bytes t (λ blocks. HoldsBack blocks (end_in b)) → items_left x.left.window ≡ [] → OfBlocks c bytes t (λ blocks. x.block ≤ length blocks → IsBackAt blocks (entries_before blocks x.block) d) → r ≡ Some x.held
+      → OfBlocks c bytes t (GoesBack b d r)
+  back_next b d x r b_is holds left opened given = for_known (GoesBack b d r) all_blocks (λ blocks known.
+      let h : IsBackIn blocks (end_of x) = subst (λ o. HoldsBack blocks (end_in o)) b_is (of_known (λ bs. HoldsBack bs (end_in b)) all_blocks blocks known holds) in
+      let here = ap (λ o. back_place blocks (end_in o)) b_is in
+      let one : found_item r ≡ 1 = ap (λ (o : Option Entry). found_item o) given in
+      let e = back_ends blocks (end_of x) h left in
+      let inside = back_block blocks (end_of x) h in
+      let place : entries_before blocks x.block ≡ back_place blocks (end_in b) - found_item r = omega (arith, here, one, e) in
+      record {
+        item_is = given ∙ sym (back_item blocks (end_of x) h) ∙ sym (ap (item_before (joined blocks)) here);
+        back = subst (λ n. IsBackAt blocks n d) place (of_known (λ bs. x.block ≤ length bs → IsBackAt bs (entries_before bs x.block) d) all_blocks blocks known opened (omega (arith, inside)));
+      })
+
+-- what is left of a block where a step gives this
+pub gave_first : (xs ys : List Entry) (r : Option Entry) → YieldsFirst (λ (l : List Entry). l) xs r ys → (x : Entry) → r ≡ Some x → xs ≡ x ∷ ys
+gave_first xs ys None h x is = absurd (cc)
+gave_first xs ys (Some y) h x is = h ∙ ap (λ z. z ∷ ys) (some_is y x is)
+
+pub gave_last : (xs ys : List Entry) (r : Option Entry) → YieldsLast (λ (l : List Entry). l) xs r ys → (x : Entry) → r ≡ Some x → xs ≡ ys ++ x ∷ []
+gave_last xs ys None h x is = absurd (cc)
+gave_last xs ys (Some y) h x is = h ∙ ap (λ z. ys ++ z ∷ []) (some_is y x is)
+
+pub gave_none_first : (xs ys : List Entry) (r : Option Entry) → YieldsFirst (λ (l : List Entry). l) xs r ys → r ≡ None → xs ≡ []
+gave_none_first xs ys None h is = h.0
+gave_none_first xs ys (Some y) h is = absurd (cc)
+
+pub gave_none_last : (xs ys : List Entry) (r : Option Entry) → YieldsLast (λ (l : List Entry). l) xs r ys → r ≡ None → xs ≡ []
+gave_none_last xs ys None h is = h.0
+gave_none_last xs ys (Some y) h is = absurd (cc)
+
+-- A table whose ends are opened.
+module _ {S : Type 0} (c : Hashes) (bytes : S → Option (List ℕ)) (t u v : TableParts S) (first : KeepsTable bytes t u) (second : KeepsTable bytes u v) (f b : Option TableEnd) (n : ℕ) (count : n ≡ length u.index)
+    (front : OfBlocks c bytes t (λ blocks. IsFrontAt blocks (entries_before blocks 0) f)) (back : OfBlocks c bytes u (λ blocks. n ≤ length blocks → IsBackAt blocks (entries_before blocks n) b)) where
+  abbrev known_all : Option (List (List Entry))
+  known_all = table_blocks c (bytes t.source) t.index
+
+  last_same : table_blocks c (bytes v.source) v.index ≡ known_all
+  last_same = blocks_same c bytes u v second ∙ blocks_same c bytes t u first
+
+  pub record Starts (blocks : List (List Entry)) : Type 0 where
+    pub are : AreTableEnds f b blocks
+    pub all : window_at f b blocks ≡ whole (joined blocks)
+    pub ordered : IsOrdered entries (joined blocks)
+
+  starts_by : (blocks : List (List Entry)) → known_all ≡ Some blocks → Starts blocks
+  starts_by blocks known =
+      let k = are_read c (bytes t.source) t.index blocks known in
+      let m = as_many t.index blocks k.ends in
+      let kept = ap (λ (p : TableParts S). length p.index) first.kept in
+      let size : n ≡ length blocks = omega (arith, m, kept, count) in
+      let h = of_known (λ bs. IsFrontAt bs (entries_before bs 0) f) known_all blocks known front in
+      let g = of_known (λ bs. n ≤ length bs → IsBackAt bs (entries_before bs n) b) (table_blocks c (bytes u.source) u.index) blocks (blocks_same c bytes t u first ∙ known) back (omega (arith, size)) in
+      let lo_is : front_place blocks (end_in f) ≡ 0 = h.place_is ∙ before_none blocks in
+      let hi_is : back_place blocks (end_in b) ≡ length (joined blocks) = g.place_is ∙ before_all blocks n (omega (arith, size)) in
+      let lo_to : ℕ → Window Entry = λ i. record { list = joined blocks; lo = i; hi = back_place blocks (end_in b) } in
+      let hi_to : ℕ → Window Entry = λ i. record { list = joined blocks; lo = 0; hi = i } in
+      record {
+        are = record { front_holds = h.holds; front_whole = h.whole; back_holds = g.holds };
+        all = ap lo_to lo_is ∙ ap hi_to hi_is;
+        ordered = (are_blocks t.index blocks k.in_order k.ends).ordered;
+      }
+
+  starts : IfSome known_all Starts
+  starts = for_known Starts known_all starts_by
+
+  pub starts_kept : IfSome (table_blocks c (bytes v.source) v.index) (AreTableEnds f b)
+  starts_kept = subst (λ o. IfSome o (AreTableEnds f b)) (sym last_same) (for_known (AreTableEnds f b) known_all (λ blocks known. (starts_by blocks known).are))
+
+  starts_in : (o : Option (List (List Entry))) → IfSome o Starts → (option_map (window_at f b) o ≡ option_map (λ blocks. whole (joined blocks)) o) × IfSome (option_map (window_at f b) o) (IsFresh entry_cmp)
+  starts_in None h = (refl, tt)
+  starts_in (Some blocks) h =
+      let fresh : IsFresh entry_cmp (whole (joined blocks)) = record { ordered = h.ordered; all = refl } in
+      (ap Some h.all, subst (IsFresh entry_cmp) (sym h.all) fresh)
+
+  pub starts_whole : option_map (window_at f b) (table_blocks c (bytes v.source) v.index) ≡ option_map (λ blocks. whole (joined blocks)) known_all
+  starts_whole = ap (option_map (window_at f b)) last_same ∙ (starts_in known_all starts).0
+
+  pub starts_fresh : IfSome (option_map (window_at f b) (table_blocks c (bytes v.source) v.index)) (IsFresh entry_cmp)
+  starts_fresh = subst (λ o. IfSome (option_map (window_at f b) o) (IsFresh entry_cmp)) (sym last_same) (starts_in known_all starts).1
+
+-- what holds of what is known of a source that no error ended
+pub unless_none : {A : Type 0} (P : A → Type 0) (o : Option A) (ended : Option Error) → ended ≡ None → IfSome o P → IfSome (unless_ended ended o) P
+unless_none P o None is h = h
+unless_none P o (Some e) is h = absurd (cc)
+
+pub unless_known : {A : Type 0} (P : A → Type 0) (o : Option A) (ended : Option Error) → ended ≡ None → IfSome (unless_ended ended o) P → IfSome o P
+unless_known P o None is h = h
+unless_known P o (Some e) is h = absurd (cc)

@@ -209,14 +209,16 @@ fn seek_back<H: BlockHash, S: FrameSource>(
         (TableStops (hashes H.hash64 H.hash128) S.bytes S.is_reliable table.old) }
 {
     let index = blocks_passed(table, key, true);
-    if index < table.index().len() {
-        let mut left = entries_at(alloc, table, index)?;
-        left.seek_upper(key);
-        if let Some(open) = hold_last(alloc, index, left)? {
-            return Ok(Some(open));
-        }
+    if index >= table.index().len() {
+        return open_back(alloc, table, index);
     }
-    open_back(alloc, table, index)
+    let mut left = entries_at(alloc, table, index)?;
+    left.seek_upper(key);
+    let held = hold_last(alloc, index, left)?;
+    match held {
+        Some(open) => Ok(Some(open)),
+        None => open_back(alloc, table, index),
+    }
 }
 
 // Takes the entry at the front, and moves the front after it.

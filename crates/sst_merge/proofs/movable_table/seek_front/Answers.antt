@@ -1,10 +1,10 @@
-use Rattle.std.proofs.Common.{arith}
+use Rattle.std.proofs.Common.{ap, arith, length}
 use Rattle.sstable_blocks.specs.RunReading.{hashes}
 use Rattle.sst_merge.proofs.TableEnds.{sought_behind, sought_front}
 use Rattle.sst_merge.proofs.movable_table.seek_front.Goals as goal
 
 pub returns-then-index-len-clause-front : goal.returns-then-index-len-clause-front
-returns-then-index-len-clause-front g c = sought_behind (hashes g.H.BlockHash.hash64 g.H.BlockHash.hash128) g.S.FrameSource.bytes c.args.table.now c.args.key.now c.blocks_passed-index.result c.blocks_passed-index.ensures (omega arith)
+returns-then-index-len-clause-front g c = sought_behind (hashes g.H.BlockHash.hash64 g.H.BlockHash.hash128) g.S.FrameSource.bytes c.args.table.now c.args.key.now c.blocks_passed-index.result c.blocks_passed-index.ensures (let e = ap length c.index.ensures.items in omega (arith, e))
 
 pub returns-clause-front : goal.returns-clause-front
 returns-clause-front g c =

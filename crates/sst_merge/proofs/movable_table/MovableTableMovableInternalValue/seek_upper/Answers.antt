@@ -1,4 +1,19 @@
+use Rattle.std.proofs.Common.{true, subst}
+use Rattle.std.specs.List.{count_by}
+use Rattle.std.specs.Option.{IfSome}
+use Rattle.sstable_blocks.specs.Blocks.{joined}
+use Rattle.sstable_blocks.specs.RunReading.{hashes}
+use Rattle.sst_base.specs.declared.error.Error.{Error}
+use Rattle.std.specs.Prelude.{Option}
+use Rattle.sst_merge.specs.Movable.{is_sought}
+use Rattle.sst_merge.specs.MovableBlocks.{entry_key}
+use Rattle.sst_merge.specs.MovableTables.{AreTableEnds, table_blocks}
+use Rattle.sst_merge.specs.Moved.{unless_ended}
+use Rattle.sst_merge.proofs.TableEnds.{kept_sought_up, unless_known, unless_none}
 use Rattle.sst_merge.proofs.movable_table.MovableTableMovableInternalValue.seek_upper.Goals as goal
 
 pub invariant_of-self : goal.invariant_of-self
-invariant_of-self g c = ?
+invariant_of-self g c =
+    let s = c.self.inside in
+    unless_none _ _ s.ended c.in_default.is
+    (kept_sought_up (hashes g.H.BlockHash.hash64 g.H.BlockHash.hash128) g.S.FrameSource.bytes s.table c.seek_back.new.table c.in-Ok.ensures.same s.front s.back c.in-Ok.back (λ blocks. count_by (is_sought entry_key c.args.key.now true) (joined blocks)) (unless_known _ _ s.ended c.in_default.is c.self.invariant) c.in-Ok.ensures.back)
