@@ -1,5 +1,5 @@
 -- Laws of merges of sources that are moved, where their lists may be unknown.
-use Rattle.std.proofs.Common.{◌≡◌, ℕ, zero, suc, ◌+◌, ◌-◌, ◌<◌, ◌≤◌, Bool, true, false, cond, List, [], ◌∷◌, length, map, get_or, Option, Some, None, slice_get, refl, sym, ap, subst, ◌∙◌, inl, inr, ◌⊎◌, arith}
+use Rattle.std.proofs.Common.{◌≡◌, ℕ, zero, suc, ◌+◌, ◌-◌, ◌<◌, ◌≤◌, Bool, true, false, cond, List, [], ◌∷◌, length, map, get_or, Option, Some, None, slice_get, refl, sym, ap, subst, ◌∙◌, inl, inr, arith}
 use Rattle.std.proofs.lemmas.List.{length-map, get_or-map, map-set, set-get_or}
 use Rattle.std.proofs.Math.ListN.{set}
 use Rattle.std.specs.Cmp.{IsTotalOrder}
@@ -12,8 +12,7 @@ use Rattle.sst_base.specs.declared.error.Error.{Error}
 use Rattle.sst_block_core.specs.Window.{Window, whole, some_left, first_left, last_left, next, next_back, Step, item}
 use Rattle.sst_block_core.specs.WindowLaws.{item_same}
 use Rattle.sst_merge.specs.ErrorLaws.{met_under, one_of_all}
-use Rattle.sst_merge.specs.Merge.{merged}
-use Rattle.sst_merge.specs.Movable.{AreMoved, IsBackAmong, IsBackPick, IsFresh, IsFrontAmong, IsFrontPick, TakesBack, TakesFront, changed_until, goes_after, goes_before, item_before, lists_in, merged_window}
+use Rattle.sst_merge.specs.Movable.{AreMoved, IsBackAmong, IsBackPick, IsFresh, IsFrontAmong, IsFrontPick, TakesBack, TakesFront, changed_until, goes_after, goes_before, item_before, merged_window}
 use Rattle.sst_merge.specs.Moved.{IsFreshSource, IsStep, MayStop, Moved, all_some, are_known, merged_moved, moved_errors, sought, step_back, step_front, unless_ended, window_or_empty, windows}
 use Rattle.sst_merge.specs.Sources.{errors_of}
 use Rattle.sst_merge.proofs.MovableLaws.{back_done, back_empty, back_ends, back_is, back_kept, back_start, back_turn, changed_next, first_is, front_done, front_start, front_turn, last_is, not_changed, next_empty, next_ends, next_is, next_kept}

@@ -1,5 +1,5 @@
 -- The blocks of a table over a sound run are known.
-use Rattle.std.proofs.Common.{◌≡◌, ℕ, zero, suc, ◌<◌, ◌^◌, Bool, true, not, cond, List, [], ◌∷◌, ◌++◌, length, map, Option, Some, None, Result, Ok, refl, sym, ap, subst, ◌∙◌, arith, length-append}
+use Rattle.std.proofs.Common.{◌≡◌, ℕ, zero, suc, ◌<◌, ◌^◌, Bool, true, not, cond, List, [], ◌∷◌, ◌++◌, length, map, Some, None, Result, Ok, refl, sym, ap, subst, ◌∙◌, arith, length-append}
 use Rattle.std.proofs.lemmas.List.{length-map, map-append}
 use Rattle.std.specs.Cmp.Lexicographic.{slice_cmp}
 use Rattle.std.specs.List.{AllByRecursion, AllZip}
@@ -20,8 +20,7 @@ use Rattle.sst_block_core.specs.Trailer.{trailer_in}
 use Rattle.sst_block_core.specs.Window.{first_match}
 use Rattle.sstable_blocks.specs.Blocks.{joined}
 use Rattle.sstable_blocks.specs.BoundLaws.{plain_ordered}
-use Rattle.sstable_blocks.specs.Opened.{range_of}
-use Rattle.sstable_blocks.specs.RunReading.{Hashes, block_items_at, handles_at, payload_at}
+use Rattle.sstable_blocks.specs.RunReading.{Hashes, handles_at, payload_at}
 use Rattle.sstable_blocks.specs.Sound.{IsSound, IsStoredBlock}
 use Rattle.sstable_blocks.specs.SoundReadLaws.{bind_to, index_of_sound, stored_is_read}
 use Rattle.sstable_blocks.specs.declared.run.RunHandles.{RunHandles}

@@ -1,4 +1,4 @@
-use Rattle.std.proofs.Common.{◌+◌, ◌≡◌, true, cond, map, subst}
+use Rattle.std.proofs.Common.{◌+◌, cond, map, subst}
 use Rattle.sst_merge.specs.Movable.{IsFrontAmong}
 use Rattle.sst_merge.specs.Moved.{windows}
 use Rattle.sst_merge.proofs.MovedLaws.{front_among}

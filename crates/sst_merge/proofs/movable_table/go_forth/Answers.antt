@@ -3,7 +3,7 @@ use Rattle.std.specs.Option.{option_map}
 use Rattle.sst_base.specs.Entry.{Entry}
 use Rattle.sst_block_core.specs.Window.{Window, items_left, next, some_left}
 use Rattle.sstable_blocks.specs.RunReading.{hashes}
-use Rattle.sst_merge.specs.MovableTables.{GoesForth, IsFrontAt, OfBlocks, TableEnd}
+use Rattle.sst_merge.specs.MovableTables.{IsFrontAt, OfBlocks, TableEnd}
 use Rattle.sst_merge.specs.MovableBlocks.{entries_before}
 use Rattle.sst_merge.proofs.TableEnds.{forth_more, forth_next, gave_first, gave_none_first}
 use Rattle.sst_merge.proofs.movable_table.go_forth.Goals as goal

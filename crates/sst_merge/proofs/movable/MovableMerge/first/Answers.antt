@@ -1,4 +1,4 @@
-use Rattle.std.proofs.Common.{◌<◌, ◌≡◌, arith, length, map, rules, subst, sym, true, ◌∙◌}
+use Rattle.std.proofs.Common.{◌<◌, ◌≡◌, arith, length, map, rules, subst, true, ◌∙◌}
 use Rattle.std.proofs.lemmas.List.{length-map}
 use Rattle.std.specs.Option.{IfSome}
 use Rattle.sst_block_core.specs.Window.{some_left}

@@ -1,5 +1,4 @@
 use Rattle.std.proofs.Common.{Bool, None, Some, ap, map, ◌∙◌, if◌then◌else◌}
-use Rattle.sst_block_core.specs.Window.{Window}
 use Rattle.sst_merge.specs.Movable.{merged_window}
 use Rattle.sst_merge.specs.Moved.{windows}
 use Rattle.sst_merge.proofs.MovableLaws.{fresh_moved, fresh_whole}

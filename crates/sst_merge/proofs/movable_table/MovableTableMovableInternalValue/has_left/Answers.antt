@@ -1,4 +1,4 @@
-use Rattle.std.proofs.Common.{◌≡◌, ◌<◌, arith, false, nat_eq, nat_lt, true, ◌∙◌}
+use Rattle.std.proofs.Common.{◌≡◌, ◌<◌, arith, false, nat_eq, nat_lt, ◌∙◌}
 use Rattle.std.proofs.lemmas.Bool.{lt-ltb}
 use Rattle.std.proofs.lemmas.Bool.Decides.{nat_tests}
 use Rattle.sst_block_core.specs.Window.{some_left}

@@ -1,14 +1,9 @@
-use Rattle.std.proofs.Common.{true, subst}
+use Rattle.std.proofs.Common.{true}
 use Rattle.std.specs.List.{count_by}
-use Rattle.std.specs.Option.{IfSome}
 use Rattle.sstable_blocks.specs.Blocks.{joined}
 use Rattle.sstable_blocks.specs.RunReading.{hashes}
-use Rattle.sst_base.specs.declared.error.Error.{Error}
-use Rattle.std.specs.Prelude.{Option}
 use Rattle.sst_merge.specs.Movable.{is_sought}
 use Rattle.sst_merge.specs.MovableBlocks.{entry_key}
-use Rattle.sst_merge.specs.MovableTables.{AreTableEnds, table_blocks}
-use Rattle.sst_merge.specs.Moved.{unless_ended}
 use Rattle.sst_merge.proofs.TableEnds.{kept_sought_up, unless_known, unless_none}
 use Rattle.sst_merge.proofs.movable_table.MovableTableMovableInternalValue.seek_upper.Goals as goal
 
