@@ -265,7 +265,7 @@ fn a_merge_of_tables_is_moved_as_a_window(rt: HostRuntime) {
 }
 
 /// How many frames of the second table all steps ask for, those of its index and of both ends with it.
-const FRAMES: usize = 24;
+const FRAMES: usize = 29;
 
 #[test]
 fn an_error_ends_a_merge_that_is_moved(rt: HostRuntime) {
