@@ -22,12 +22,12 @@ use Rattle.sst_parts.specs.ManyReads.{block_place, located, read_at}
 use Rattle.sstable_blocks.specs.Lookup.{handle_for, place_for}
 use Rattle.sstable_blocks.specs.Opened.{range_of}
 use Rattle.sstable_blocks.specs.PointLaws.{block_entries, block_heads}
-use Rattle.sstable_blocks.specs.ReadCosts.{CountsGrow, CountsHandle, entries_at, handles_most, heads_at, interval_in, most_by}
+use Rattle.sstable_blocks.specs.ReadCosts.{CountsHandle, entries_at, handles_most, heads_at, interval_in, most_by}
 use Rattle.sstable_blocks.specs.RunReading.{Hashes, block_items_at, read_block, read_checked}
 use Rattle.sstable_blocks.specs.Scans.{AtHandle, index_cost}
 use Rattle.sstable_blocks.specs.SourceLaws.{source_fails}
 use Rattle.sstable_blocks.specs.Sources.{FailsAs, GivesOr}
-use Rattle.sstable_blocks.specs.Tables.{IsBlockIn, LooksBy, kept_of, kept_says}
+use Rattle.sstable_blocks.specs.Tables.{IsBlockIn, kept_of, kept_says}
 use Rattle.sstable_blocks.specs.declared.run.RunHandles.{RunHandles}
 
 module _ (c : Hashes) (needle : List ℕ) (seqno : ℕ) where
@@ -103,21 +103,6 @@ module _ (c : Hashes) (needle : List ℕ) (seqno : ℕ) where
     counts = refused_counts o.0 o.1 i more s t first;
   }
 
-  -- a failure of no source is one of any
-  any_gives : (P R : Type 0) (r x : Result (Option Entry) Error) → GivesOr ⊥ ⊥ (λ y. y) r x → GivesOr P R (λ y. y) r x
-  any_gives P R (Ok y) x gives = gives
-  any_gives P R (Err e) x gives = λ other. elim (gives other) [
-    | inl failed ↦ absurd failed.0
-    | inr same ↦ inr same
-  ]
-
-  any_exact : (o : Option (List ℕ)) (hs : List Handle) (i : ℕ) (P R : Type 0) (r : Result (Option Entry) Error) → AtHandle o hs i (λ all h. GivesOr ⊥ ⊥ (λ x. x) r (read_block c all (Some h) needle seqno)) → AtHandle o hs i (λ all h. GivesOr P R (λ x. x) r (read_block c all (Some h) needle seqno))
-  any_exact None hs i P R r exact = tt
-  any_exact (Some all) hs i P R r exact = λ h at. any_gives P R r (read_block c all (Some h) needle seqno) (exact h at)
-
-  pub any_source : (o : Origin) (i more : ℕ) (P R : Type 0) (r : Result (Option Entry) Error) (s t : Counted) → IsReadOf c o i needle seqno more ⊥ ⊥ r s t → IsReadOf c o i needle seqno more P R r s t
-  any_source o i more P R r s t is = record { grows = is.grows; exact = any_exact o.0 o.1 i P R r is.exact; counts = is.counts }
-
 -- a read of the block at the index that a table leads to
 module _ (c : Hashes) (h : RunHandles) (filter : Option (List ℕ)) (hs : List Handle) (needle : List ℕ) (seqno : ℕ) where
   abbrev place : ℕ
@@ -187,11 +172,3 @@ module _ (c : Hashes) (h : RunHandles) (filter : Option (List ℕ)) (hs : List H
         entries_least = omega (arith, first.entries_least);
         entries_most = omega (arith, first.entries_most, few);
       }
-
-  looked_on : (m : Result Bool Error) (s t u : Counted) → m ≡ Ok true → LooksBy m s t → CountsGrow t u → LooksBy m s u
-  looked_on (Ok true) s t u is looked more = omega (arith, looked, more.heads)
-  looked_on (Ok false) s t u is looked more = absurd (let k : ◌≡◌ {A = Result Bool Error} (Ok false) (Ok true) = is in cc)
-  looked_on (Err e) s t u is looked more = absurd (let k : ◌≡◌ {A = Result Bool Error} (Err e) (Ok true) = is in cc)
-
-  pub read_looked : (i : ℕ) (s t u : Counted) → located c.hash64 filter hs needle seqno ≡ Ok (Some i) → LooksBy (kept_says c.hash64 filter needle) s t → CountsGrow t u → LooksBy (kept_says c.hash64 filter needle) s u
-  read_looked i s t u is looked more = looked_on (kept_says c.hash64 filter needle) s t u (handle_there i is).0 looked more

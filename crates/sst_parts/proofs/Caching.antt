@@ -4,10 +4,10 @@ use Rattle.std.specs.List.{AllByRecursion, slice_get}
 use Rattle.std.specs.Map.{lookup, lookup_entry, remove_entry}
 use Rattle.std.specs.Option.{option_map_or}
 use Rattle.std.specs.Prelude.{OnOk, is_ok, is_some, nat_eq, nat_le, option_copied}
-use Rattle.std.proofs.lemmas.Bool.{cases_Bool, leb-true, leb-false, le-leb, lt-leb, eqb-true}
+use Rattle.std.proofs.lemmas.Bool.{cases_Bool, leb-true, leb-false, eqb-true}
 use Rattle.lru.specs.LruCache.{LruCache, promoted, put_entries}
 use Rattle.sst_block_core.specs.DataBlock.{DataBlockParts}
-use Rattle.sst_parts.specs.Caches.{CacheParts, Kept, fitting, is_place, kept_at, kept_after, kept_bytes, looked_up, one_more}
+use Rattle.sst_parts.specs.Caches.{CacheParts, Kept, fitting, is_place, kept_at, kept_bytes, looked_up, one_more}
 
 abbrev size : Kept → ℕ
 size e = length e.1.payload
@@ -208,14 +208,6 @@ looked_up_missed v place (Some b) at none = cc
 pub kept_shown : (P : Kept → Type 0) (es : List Kept) (place : ℕ × ℕ) (r : Option (Bor DataBlockParts)) → option_copied r ≡ kept_at es place → AllByRecursion P es → IfSome r (λ b. P (place, b.now))
 kept_shown P es place None at all = tt
 kept_shown P es place (Some b) at all = kept_holds P es place b.now (sym at) all
-
--- a block is kept in front of those that fit beside it
-pub keeps_put : (v : CacheParts) (place : ℕ × ℕ) (b : DataBlockParts) → length b.payload ≤ v.most → record v { kept = (place, b) ∷ fitting (v.most - length b.payload) v.kept } ≡ record v { kept = kept_after v place b }
-keeps_put v place b le = ap (λ (t : Bool). record v { kept = cond t ((place, b) ∷ fitting (v.most - length b.payload) v.kept) v.kept }) (sym (le-leb (length b.payload) v.most le))
-
--- and one that is too long is not
-pub keeps_none : (v : CacheParts) (place : ℕ × ℕ) (b : DataBlockParts) → v.most < length b.payload → v ≡ record v { kept = kept_after v place b }
-keeps_none v place b less = ap (λ (t : Bool). record v { kept = cond t ((place, b) ∷ fitting (v.most - length b.payload) v.kept) v.kept }) (sym (lt-leb (length b.payload) v.most less))
 
 pub ok_gives : {X E : Type 0} (r : Result X E) (P : Type 0) → is_ok r ≡ true → OnOk r P → P
 ok_gives (Ok x) P is on = on

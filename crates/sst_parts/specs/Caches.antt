@@ -1,5 +1,5 @@
 -- A cache of data blocks, which tables share.
-use Rattle.std.specs.Prelude.{◌≡◌, ◌⊎◌, ℕ, ◌+◌, ◌-◌, ◌*◌, ◌%◌, ◌^◌, ◌≤◌, ◌&&◌, nat_eq, nat_le, if◌then◌else◌, Bool, List, [], ◌∷◌, length, slice_get, Option, Some, None, IsSomeAnd, Result, IsErr}
+use Rattle.std.specs.Prelude.{◌≡◌, ◌⊎◌, ℕ, ◌+◌, ◌-◌, ◌*◌, ◌%◌, ◌^◌, ◌<◌, ◌≤◌, ◌&&◌, nat_eq, nat_le, if◌then◌else◌, Bool, List, [], ◌∷◌, length, slice_get, Option, Some, None, IsSomeAnd, Result, IsErr}
 use Rattle.std.specs.List.{AllByRecursion}
 use Rattle.std.specs.Map.{lookup}
 use Rattle.lru.specs.LruCache.{promoted}
@@ -26,19 +26,20 @@ abbrev pub Kept : Type 0
 Kept = (ℕ × ℕ) × DataBlockParts
 
 -- what contracts see of a cache: the blocks kept, the most recently used first; the most bytes that their payloads may
--- have; how often a block was there, how often it was not, and how often one was not kept since an allocation failed, each
--- modulo 2^64; and what the numbers of its tables stand for
+-- have; how often a block was there, and how often it was not; how often one was read and not kept, since it has more
+-- bytes, and since an allocation failed, each modulo 2^64; and what the numbers of its tables stand for
 pub record CacheParts : Type 0 where
   pub kept : List Kept
   pub most : ℕ
   pub hits : ℕ
   pub misses : ℕ
+  pub oversized : ℕ
   pub failed : ℕ
   pub tables : List Origin
 
 -- a cache without blocks and tables
 abbrev pub empty_cache : ℕ → CacheParts
-empty_cache most = record { kept = []; most = most; hits = 0; misses = 0; failed = 0; tables = [] }
+empty_cache most = record { kept = []; most = most; hits = 0; misses = 0; oversized = 0; failed = 0; tables = [] }
 
 -- one more, modulo 2^64
 abbrev pub one_more : ℕ → ℕ
@@ -85,14 +86,13 @@ abbrev pub looked_up : CacheParts → ℕ × ℕ → Option DataBlockParts → C
 looked_up c place (Some b) = record c { kept = promoted (is_place place) c.kept; hits = one_more c.hits }
 looked_up c place None = record c { misses = one_more c.misses }
 
--- the blocks that are kept after a block was read: the block, and the most recently used others that fit beside it; those
--- before where it does not fit
-abbrev pub kept_after : CacheParts → ℕ × ℕ → DataBlockParts → List Kept
-kept_after c place b = if nat_le (length b.payload) c.most then (place, b) ∷ fitting (c.most - length b.payload) c.kept else c.kept
-
--- A block is kept; where an allocation fails it is not, and that is counted.
+-- A block that was read is kept, before the most recently used others that fit beside it. It is not, and that is counted,
+-- where its payload has too many bytes, or where an allocation fails, after room was made for it.
 abbrev pub Keeps : CacheParts → ℕ × ℕ → DataBlockParts → CacheParts → Type 0
-Keeps old place b new = (new ≡ record old { kept = kept_after old place b }) ⊎ ((length b.payload ≤ old.most) × (new ≡ record old { kept = fitting (old.most - length b.payload) old.kept; failed = one_more old.failed }))
+Keeps old place b new =
+    ((length b.payload ≤ old.most) × (new ≡ record old { kept = (place, b) ∷ fitting (old.most - length b.payload) old.kept }))
+    ⊎ (((old.most < length b.payload) × (new ≡ record old { oversized = one_more old.oversized }))
+    ⊎ ((length b.payload ≤ old.most) × (new ≡ record old { kept = fitting (old.most - length b.payload) old.kept; failed = one_more old.failed })))
 
 -- after the block of a place was read, which was not kept: it is kept, unless it was refused
 abbrev pub KeepsRead : {Y : Type 0} → Hashes → CacheParts → ℕ × ℕ → Result Y Error → CacheParts → Type 0

@@ -14,13 +14,13 @@ use std::alloc::Global;
 use std::collections::LinkedList;
 use std::marker::Model;
 
-/// Data blocks that were verified and checked, of any number of tables: the most recently used ones,
-/// whose payloads have a limited number of bytes in all.
+/// Data blocks that were verified and checked, of any number of tables: the most recently used
+/// ones, whose payloads have a limited number of bytes in all.
 ///
 /// Clauses see the blocks, each with the number of its table and its index there, the most recently
-/// used first; the limit; the counts of look-ups and of failed allocations, modulo 2^64; and for each
-/// table's number the bytes of its source, if these are known, and the handles of its index. A block
-/// that is kept is always the block at its index of its table.
+/// used first; the limit; the counts of look-ups and of blocks that were not kept, modulo 2^64; and
+/// for each table's number the bytes of its source, if these are known, and the handles of its
+/// index. A block that is kept is always the block at its index of its table.
 #[derive(Drop)]
 pub struct BlockCache<H: BlockHash> {
     kept: LruCache<(u64, usize), DataBlock<H>>,
@@ -28,6 +28,7 @@ pub struct BlockCache<H: BlockHash> {
     most: u64,
     hits: u64,
     misses: u64,
+    oversized: u64,
     failed: u64,
     next: u64,
     tables: History<(Option<LinkedList<u8>>, LinkedList<KeyedBlockHandle>)>,
@@ -44,6 +45,7 @@ impl<H: BlockHash> Model for BlockCache<H> {
       most = c.most;
       hits = c.hits;
       misses = c.misses;
+      oversized = c.oversized;
       failed = c.failed;
       tables = c.tables;
     } };
@@ -54,13 +56,14 @@ impl<H: BlockHash> Model for BlockCache<H> {
           most = c.most;
           hits = c.hits;
           misses = c.misses;
+          oversized = c.oversized;
           failed = c.failed;
           tables = c.tables;
         }) };
 }
 
-// Removes the least recently used block, of blocks whose payloads have so many bytes, and returns the
-// bytes of the others.
+// Removes the least recently used block, of blocks whose payloads have so many bytes, and returns
+// the bytes of the others.
 fn remove_last<H: BlockHash>(kept: &mut LruCache<(u64, usize), DataBlock<H>>, bytes: u64) -> u64
     requires bytes { bytes ≡ kept_bytes kept.old.entries }
     requires some { 0 < bytes }
@@ -76,8 +79,8 @@ fn remove_last<H: BlockHash>(kept: &mut LruCache<(u64, usize), DataBlock<H>>, by
     }
 }
 
-// Removes the least recently used of blocks, whose payloads have so many bytes, until the others have
-// at most so many, and returns how many these have.
+// Removes the least recently used of blocks, whose payloads have so many bytes, until the others
+// have at most so many, and returns how many these have.
 fn evict<H: BlockHash>(
     kept: &mut LruCache<(u64, usize), DataBlock<H>>,
     bytes: u64,
@@ -114,8 +117,8 @@ fn put_first<H: BlockHash>(
 }
 
 impl<H: BlockHash> BlockCache<H> {
-    /// Makes an empty cache. The payloads of the blocks that it keeps have at most `most` bytes in all:
-    /// a longer block is not kept.
+    /// Makes an empty cache. The payloads of the blocks that it keeps have at most `most` bytes in
+    /// all: a longer block is not kept.
     ///
     /// # Errors
     ///
@@ -131,6 +134,7 @@ impl<H: BlockHash> BlockCache<H> {
             most,
             hits: 0,
             misses: 0,
+            oversized: 0,
             failed: 0,
             next: 0,
             tables: History::new(),
@@ -171,6 +175,14 @@ impl<H: BlockHash> BlockCache<H> {
         ensures { result ≡ self.now.misses }
     {
         self.misses
+    }
+
+    /// Returns how many blocks were not kept since their payloads have more bytes than the cache
+    /// may, modulo 2^64.
+    pub fn oversized(&self) -> u64
+        ensures { result ≡ self.now.oversized }
+    {
+        self.oversized
     }
 
     /// Returns how many blocks were not kept since an allocation failed, modulo 2^64.
@@ -225,8 +237,8 @@ impl<H: BlockHash> BlockCache<H> {
         self.kept.peek(&(number, index))
     }
 
-    // Keeps the block at an index of a table, if its payload fits, beside the most recently used ones
-    // that fit beside it. Where an allocation fails it is not kept, and that is counted.
+    // Keeps the block at an index of a table, with the most recently used ones that fit beside it.
+    // Where its payload does not fit, or an allocation fails, it is not kept, and that is counted.
     pub(crate) fn keep(&mut self, number: u64, index: usize, block: DataBlock<H>)
         requires absent { kept_at self.old.kept (number, index) ≡ None }
         requires block { IsKept (hashes H.hash64 H.hash128) self.old.tables
@@ -235,6 +247,7 @@ impl<H: BlockHash> BlockCache<H> {
     {
         let size = block.as_slice().len() as u64;
         if size > self.most {
+            self.oversized = self.oversized.wrapping_add(1);
             return;
         }
         self.bytes = evict(&mut self.kept, self.bytes, self.most - size);

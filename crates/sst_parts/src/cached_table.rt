@@ -21,8 +21,8 @@ use std::marker::Model;
 
 /// A table that is read through a cache of blocks, which gave it a number.
 ///
-/// Clauses see the table and its number. What the table keeps is always what is read of its source's
-/// bytes, if these are known.
+/// Clauses see the table and its number. What the table keeps is always what is read of its
+/// source's bytes, if these are known.
 #[derive(Drop)]
 pub struct CachedTable<H: BlockHash, S: FrameSource> {
     table: Table<H, S>,
@@ -62,7 +62,8 @@ fn read_kept<H: BlockHash>(
     }
 }
 
-// The first match in the block at an index of a table, which is not kept: it is read, and kept then.
+// The first match in the block at an index of a table, which is not kept: it is read, and kept
+// then.
 fn read_new<H: BlockHash, S: FrameSource>(
     alloc: Global,
     table: &mut Table<H, S>,
@@ -190,10 +191,10 @@ impl<H: BlockHash, S: FrameSource> CachedTable<H, S> {
         }
     }
 
-    /// Returns what [`Table::get`] returns. A block that the cache keeps is not read again: no frame
-    /// is read then. One that it does not keep is read, verified and checked, and kept, as the most
-    /// recently used, if its payload fits. A block that is refused is not kept, so its error is met
-    /// again. The cache is the one that the table was added to.
+    /// Returns what [`Table::get`] returns. A block that the cache keeps is not read again: no
+    /// frame is read then. One that it does not keep is read, verified and checked, and kept, as
+    /// the most recently used, if its payload fits. A block that is refused is not kept, so its
+    /// error is met again. The cache is the one that the table was added to.
     ///
     /// What is examined is added to `steps`: nothing where the filter rules the key out, else at
     /// least a head of the index, and at most as many heads and entries as [`Table::get`] examines,

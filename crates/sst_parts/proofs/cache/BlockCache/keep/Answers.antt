@@ -13,8 +13,8 @@ put_first-requires-clause-absent g c =
     let none = subst (λ (w : CacheParts). kept_at w.kept place ≡ None) (sym c.self.view_is) c.requires.absent in
     ap (λ (x : LruCache (ℕ × ℕ) DataBlockParts). kept_at x.entries place) c.evict-self-inside.ensures.kept ∙ absent_fitting (is_place place) (c.self.inside.most - c.len-size.result) c.self.inside.kept.entries none
 
-pub invariant_of-self : goal.invariant_of-self
-invariant_of-self g c =
+pub invariant_of-self-then-put_first : goal.invariant_of-self-then-put_first
+invariant_of-self-then-put_first g c =
     let place : ℕ × ℕ = (c.args.number, c.args.index) in
     let v = c.self.invariant in
     let P : Kept → Type 0 = IsKept (hashes g.H.BlockHash.hash64 g.H.BlockHash.hash128) c.self.inside.tables in

@@ -37,16 +37,16 @@ pub returns-then-there-clause-new : goal.returns-then-there-clause-new
 returns-then-there-clause-new g c =
     let place : ℕ × ℕ = (c.args.number, c.args.index) in
     let s = c.self.inside in
-    let v : CacheParts = record { kept = s.kept.entries; most = s.most; hits = s.hits; misses = s.misses; failed = s.failed; tables = s.tables } in
-    subst (λ (w : CacheParts). record { kept = c.promote-there.new.self.entries; most = s.most; hits = one_more s.hits; misses = s.misses; failed = s.failed; tables = s.tables } ≡ looked_up w place (kept_at w.kept place)) c.self.view_is
+    let v : CacheParts = record { kept = s.kept.entries; most = s.most; hits = s.hits; misses = s.misses; oversized = s.oversized; failed = s.failed; tables = s.tables } in
+    subst (λ (w : CacheParts). record { kept = c.promote-there.new.self.entries; most = s.most; hits = one_more s.hits; misses = s.misses; oversized = s.oversized; failed = s.failed; tables = s.tables } ≡ looked_up w place (kept_at w.kept place)) c.self.view_is
     (ap (λ (x : LruCache (ℕ × ℕ) DataBlockParts). record v { kept = x.entries; hits = one_more v.hits }) c.promote-there.ensures.entries ∙ looked_up_found v place (kept_at v.kept place) refl (sym c.promote-there.ensures.value ∙ c.if-there.true))
 
 pub returns-else-there-clause-new : goal.returns-else-there-clause-new
 returns-else-there-clause-new g c =
     let place : ℕ × ℕ = (c.args.number, c.args.index) in
     let s = c.self.inside in
-    let v : CacheParts = record { kept = s.kept.entries; most = s.most; hits = s.hits; misses = s.misses; failed = s.failed; tables = s.tables } in
-    subst (λ (w : CacheParts). record { kept = c.promote-there.new.self.entries; most = s.most; hits = s.hits; misses = one_more s.misses; failed = s.failed; tables = s.tables } ≡ looked_up w place (kept_at w.kept place)) c.self.view_is
+    let v : CacheParts = record { kept = s.kept.entries; most = s.most; hits = s.hits; misses = s.misses; oversized = s.oversized; failed = s.failed; tables = s.tables } in
+    subst (λ (w : CacheParts). record { kept = c.promote-there.new.self.entries; most = s.most; hits = s.hits; misses = one_more s.misses; oversized = s.oversized; failed = s.failed; tables = s.tables } ≡ looked_up w place (kept_at w.kept place)) c.self.view_is
     (ap (λ (x : LruCache (ℕ × ℕ) DataBlockParts). record v { kept = x.entries; misses = one_more v.misses }) c.promote-there.ensures.entries ∙ looked_up_missed v place (kept_at v.kept place) refl (sym c.promote-there.ensures.value ∙ c.if-there.false))
 
 pub returns-then-there-clause-same : goal.returns-then-there-clause-same
