@@ -1,3 +1,5 @@
+pub mod CachedReads
+pub mod Caching
 pub mod Blocks
 pub mod CheckedReads
 pub mod Closings

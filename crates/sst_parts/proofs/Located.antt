@@ -4,7 +4,6 @@ use Rattle.std.specs.List.{slice_get}
 use Rattle.std.specs.Prelude.{IsOkUnless, nat_lt}
 use Rattle.std.proofs.lemmas.Bool.{cases_Bool, ltb-false}
 use Rattle.std.proofs.lemmas.Option.{slice_get_past}
-use Rattle.sst_base.specs.BlockHandle.{HandleParts}
 use Rattle.sst_base.specs.Entry.{Entry}
 use Rattle.sst_base.specs.Header.{◌>>=◌}
 use Rattle.sst_base.specs.HeaderLaws.{bind_ok}
@@ -18,10 +17,9 @@ use Rattle.sst_block_core.specs.Handles.{Handle, handles}
 use Rattle.sst_block_core.specs.Window.{first_match}
 use Rattle.sst_parts.specs.ManyReads.{IsOpenAt, block_place, located, read_at}
 use Rattle.sstable_blocks.specs.KeptLaws.{blocks_same}
-use Rattle.sstable_blocks.specs.Filter.{filter_at}
 use Rattle.sstable_blocks.specs.Lookup.{handle_for, place_for}
 use Rattle.sstable_blocks.specs.Opened.{range_of}
-use Rattle.sstable_blocks.specs.RunReading.{Hashes, block_items_at, filter_answer, filter_says, handles_at, payload_at, read_block, read_blocks, read_checked}
+use Rattle.sstable_blocks.specs.RunReading.{Hashes, block_items_at, handles_at, payload_at, read_block, read_blocks, read_checked}
 use Rattle.sstable_blocks.specs.Scans.{AtHandle}
 use Rattle.sstable_blocks.specs.SourceLaws.{source_fails}
 use Rattle.sstable_blocks.specs.Sources.{FailsAs, GivesOr}
@@ -58,13 +56,13 @@ checked_is_located c bytes h filter hs needle seqno kept =
     ∙ ap (λ r. kept_says c.hash64 filter needle >>= (λ (may : Bool). if may then r else Ok None)) (blocks_same c bytes h.index hs needle seqno index_is)
     ∙ allowed_same c bytes hs needle seqno (kept_says c.hash64 filter needle)
 
-items_first : (c : Hashes) (bytes : List ℕ) (h : Handle) (needle : List ℕ) (seqno : ℕ) → read_block c bytes (Some h) needle seqno ≡ (block_items_at c bytes (range_of h) >>= (λ (xs : List Entry). Ok (first_match entries needle seqno xs)))
+pub items_first : (c : Hashes) (bytes : List ℕ) (h : Handle) (needle : List ℕ) (seqno : ℕ) → read_block c bytes (Some h) needle seqno ≡ (block_items_at c bytes (range_of h) >>= (λ (xs : List Entry). Ok (first_match entries needle seqno xs)))
 items_first c bytes h needle seqno = bound (payload_at c types.Data bytes (range_of h)) where
   bound : (r : Result (List ℕ) Error) → (r >>= (λ (p : List ℕ). data_check c.hash64 p >>= (λ (xs : List Entry). Ok (first_match entries needle seqno xs)))) ≡ ((r >>= (λ (p : List ℕ). data_check c.hash64 p)) >>= (λ (xs : List Entry). Ok (first_match entries needle seqno xs)))
   bound (Ok p) = refl
   bound (Err e) = refl
 
-some_at : (hs : List Handle) (i : ℕ) → i < length hs → (h : Handle) × (slice_get hs i ≡ Some h)
+pub some_at : (hs : List Handle) (i : ℕ) → i < length hs → (h : Handle) × (slice_get hs i ≡ Some h)
 some_at [] i less = absurd (omega arith)
 some_at (h ∷ hs) zero less = (h, refl)
 some_at (h ∷ hs) (suc i) less = some_at hs i (omega (arith, less))

@@ -1,3 +1,4 @@
+pub mod Caches
 pub mod ManyReads
 pub mod Parts
 pub mod PartWriting

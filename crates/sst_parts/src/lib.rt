@@ -3,6 +3,8 @@
 //! of many keys of a table, each block once.
 #![tactic(auto)]
 
+pub mod cache;
+pub mod cached_table;
 mod closed;
 pub mod laws;
 pub mod many;
@@ -10,5 +12,7 @@ mod part;
 pub mod table;
 pub mod writer;
 
+pub use cache::BlockCache;
+pub use cached_table::CachedTable;
 pub use table::PartedTable;
 pub use writer::{PartSizes, PartWriter};

@@ -2,6 +2,7 @@
 ghost use Rattle.std.specs.Prelude.{◌≡◌, ◌≢◌, ◌<◌, None, Ok, Some, IfErr, IfOk, IfSome, IsOkUnless, OnErr, OnOk};
 ghost use Rattle.std.specs.Prelude.{false, length, map, true};
 ghost use Rattle.sst_base.specs.declared.error.Error.TheVariants.{Io};
+ghost use Rattle.sst_base.specs.Counted.{CountsBetween};
 ghost use Rattle.sst_parts.specs.ManyReads.{IsLastBlock, IsOpenAt, IsOpened, block_frames};
 ghost use Rattle.sst_parts.specs.ManyReads.{index_after, last_index, located, many_frames, place_of};
 ghost use Rattle.sst_parts.specs.ManyReads.{read_each};
@@ -9,9 +10,9 @@ ghost use Rattle.sst_block_core.specs.Entries.{entries};
 ghost use Rattle.sst_block_core.specs.Window.{first_match};
 ghost use Rattle.sstable_blocks.specs.Opened.{range_of};
 ghost use Rattle.sstable_blocks.specs.RunReading.{block_items_at, hashes, read_checked};
-ghost use Rattle.sstable_blocks.specs.Scans.{AtHandle};
+ghost use Rattle.sstable_blocks.specs.Scans.{AtHandle, index_cost};
 ghost use Rattle.sstable_blocks.specs.Sources.{AsksExactly, AsksUpTo, FailsAs, ReadsAs, UsesSource};
-ghost use Rattle.sstable_blocks.specs.Tables.{kept_says};
+ghost use Rattle.sstable_blocks.specs.Tables.{LooksBy, kept_says};
 
 use sst_base::{BlockHash, Error, InternalValue, Result, SeqNo, Steps};
 use sst_block_core::DataBlock;
@@ -41,7 +42,7 @@ fn kept_allows<H: BlockHash, S: FrameSource>(table: &Table<H, S>, key: &[u8]) ->
 
 // The index of the block that can hold a key below a sequence number, if there is one, by what a
 // table keeps.
-fn locate<H: BlockHash, S: FrameSource>(
+pub(crate) fn locate<H: BlockHash, S: FrameSource>(
     table: &Table<H, S>,
     key: &[u8],
     seqno: SeqNo,
@@ -50,6 +51,9 @@ fn locate<H: BlockHash, S: FrameSource>(
     ensures exact { result ≡ located H.hash64 table.now.filter table.now.index key.now seqno }
     ensures inside { IfOk result (λ r. IfSome r (λ i. i < length table.now.index)) }
     ensures not_io { IfErr result (λ e. e ≢ Io) }
+    ensures counts { CountsBetween steps.old steps.new (0, 0)
+        (index_cost table.now.interval (length table.now.index)) }
+    ensures looked { LooksBy (kept_says H.hash64 table.now.filter key.now) steps.old steps.new }
 {
     if !kept_allows(table, key)? {
         return Ok(None);

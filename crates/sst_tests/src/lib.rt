@@ -11,6 +11,8 @@ mod base;
 #[cfg(test)]
 mod blocks;
 #[cfg(test)]
+mod cached;
+#[cfg(test)]
 mod merges;
 #[cfg(test)]
 mod parts;
