@@ -61,7 +61,7 @@ const WAYS: [(&str, Way, usize); 6] = [
 
 /// A source of frames in memory that counts the frames requested, and fails at one.
 #[derive(Drop)]
-struct FailingSource {
+pub(crate) struct FailingSource {
     inner: MemorySource,
     calls: usize,
     fails_at: usize,
@@ -71,7 +71,7 @@ struct FailingSource {
 
 impl FailingSource {
     /// Wraps the bytes of a run. The call of this number fails.
-    fn new(bytes: Slice, fails_at: usize) -> FailingSource {
+    pub(crate) fn new(bytes: Slice, fails_at: usize) -> FailingSource {
         FailingSource {
             inner: MemorySource::new(bytes),
             calls: 0,
