@@ -200,12 +200,12 @@ fn step<H: BlockHash, S: FrameSource>(
     far.take(alloc, back)
 }
 
-/// A scan of a parted table: gives its entries within a range of user keys, in order, from both ends
-/// in any mixture.
+/// A scan of a parted table: gives its entries within a range of user keys, in order, from both
+/// ends in any mixture.
 ///
 /// A part is read whole when it is reached, by one frame, and each of its blocks is verified and
-/// checked when that is reached. Parts that the index of the parts shows to be outside the range are
-/// not read. At most two parts are held, one for each end. An error ends the scan: each later step
+/// checked when that is reached. Parts that the index of the parts shows to be outside the range
+/// are not read. At most two parts are held, one for each end. An error ends the scan: each later step
 /// returns it again.
 ///
 /// Clauses see the table, the range, what is left to read of the part opened from the front, the
@@ -278,9 +278,9 @@ impl<'k, H: BlockHash, S: FrameSource> PartedScan<'k, H, S> {
     /// # Errors
     ///
     /// For the parts that are reached, in order: those of the source for the bytes of the part,
-    /// `Error::Truncated` if these are fewer than 24, those of [`Table::open`] for its filter and its
-    /// index, and those of [`Table::block_at`] for its blocks. `Error::Memory` if an allocation
-    /// fails. After an error each step returns that error.
+    /// `Error::Truncated` if these are fewer than 24, those of [`Table::open`] for its filter and
+    /// its index, and those of [`Table::block_at`] for its blocks. `Error::Io` only where the source
+    /// failed. `Error::Memory` if an allocation fails. After an error each step returns that error.
     ///
     /// [`Table::open`]: sstable_blocks::run::Table::open
     /// [`Table::block_at`]: sstable_blocks::run::Table::block_at
@@ -313,8 +313,8 @@ impl<'k, H: BlockHash, S: FrameSource> PartedScan<'k, H, S> {
     ///
     /// # Errors
     ///
-    /// Those of [`PartedScan::next_entry`] for the parts that are reached, from the last on. After an
-    /// error each step returns that error.
+    /// Those of [`PartedScan::next_entry`] for the parts that are reached, from the last on. After
+    /// an error each step returns that error.
     pub fn next_entry_back(&mut self, alloc: Global) -> Result<Option<InternalValue>>
         ensures same { IsSamePartScan self.old self.new }
         ensures source { UsesPartScan S.bytes S.failures S.reads S.is_reliable

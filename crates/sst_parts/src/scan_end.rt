@@ -79,8 +79,8 @@ fn take_of<'k, H: BlockHash>(
     }
 }
 
-// An end of a scan: its bounds, and the part that was opened there, if one was. Clauses see the range
-// of keys, what is left to read of the part, and at most how many entries that are.
+// An end of a scan: its bounds, and the part that was opened there, if one was. Clauses see the
+// range of keys, what is left to read of the part, and at most how many entries that are.
 #[derive(Drop)]
 pub(crate) struct ScanEnd<'k, H: BlockHash> {
     from: Bound<&'k [u8]>,
