@@ -1,4 +1,5 @@
 pub mod Caches
 pub mod ManyReads
 pub mod Parts
+pub mod PartScans
 pub mod PartWriting
