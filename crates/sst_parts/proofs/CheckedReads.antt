@@ -1,29 +1,19 @@
 -- Reading frames of any bytes: which errors do not come, and what a filter says.
-use Rattle.std.proofs.Common.{◌≡◌, ◌≢◌, ℕ, zero, suc, ◌<◌, ◌≤◌, List, arith, refl, sym, ap, subst, ◌∙◌, inl, inr, Bool, true, false, if◌then◌else◌, Option, Some, None, Result, Ok, Err, IfOk, IfErr, IfSome, IsTrue, ◌↔◌}
-use Rattle.std.proofs.lemmas.Bool.{eqb-true, eq-eqb, and_parts, and_from, cases_lt}
-use Rattle.sst_base.specs.FrameErrorLaws.{NotIo}
+use Rattle.std.proofs.Common.{◌≡◌, ℕ, ◌<◌, ◌≤◌, List, arith, refl, sym, ap, subst, ◌∙◌, inl, inr, Option, Some, None, Result, Ok, Err, IfSome}
 use Rattle.sst_base.specs.declared.error.Error.{Error}
-use Rattle.sst_base.specs.declared.error.Error.TheVariants.{Io}
 use Rattle.std.specs.Option.{option_map}
 use Rattle.sst_base.specs.BlockHandle.{HandleParts}
 use Rattle.sst_base.specs.declared.table.block.block_type.BlockType.TheVariants as types
 use Rattle.sst_block_core.specs.Handles.{handles}
 use Rattle.sstable_blocks.specs.Lookup.{handle_for}
 use Rattle.sstable_blocks.specs.Opened.{range_of}
-use Rattle.sstable_blocks.specs.RunReading.{Hashes, handles_at, payload_at, filter_says, read_block, read_blocks, read_checked}
-use Rattle.sstable_blocks.specs.declared.run.RunHandles.{RunHandles}
+use Rattle.sstable_blocks.specs.RunReading.{Hashes, handles_at, payload_at, read_block, read_blocks}
 use Rattle.sstable_blocks.specs.SourceLaws.{source_fails}
 use Rattle.sstable_blocks.specs.Sources.{FailsAs, GivesOr}
 use Rattle.sst_base.specs.Entry.{Entry}
-use Rattle.sst_block_core.specs.Checks.{all_below, index_check}
+use Rattle.sst_block_core.specs.Checks.{index_check}
 use Rattle.sst_block_core.specs.Handles.{Handle}
-use Rattle.sstable_blocks.specs.Bits.{has_bit}
-use Rattle.sstable_blocks.specs.Probes.{probe}
 use Rattle.sst_base.specs.Header.{◌>>=◌}
-use Rattle.sst_base.specs.HeaderLaws.{bind_ok}
-use Rattle.sstable_blocks.specs.FilterLaws.{filter_not_io}
-use Rattle.sstable_blocks.specs.Filter.{Filter, MayContain, may_contain, filter_at}
-use Rattle.sstable_blocks.specs.RunReading.{filter_answer}
 use Rattle.sstable_blocks.specs.CheckedLaws.{gives_or_later}
 use Rattle.sstable_blocks.specs.KeptLaws.{blocks_same}
 

@@ -1,5 +1,5 @@
 -- Parts that are closed, one after the other.
-use Rattle.std.proofs.Common.{◌≡◌, ◌⊎◌, ℕ, suc, ◌+◌, ◌-◌, ◌<◌, ◌≤◌, ◌^◌, Bool, true, false, cond, List, [], ◌∷◌, ◌++◌, length, take, drop, map, get_or, drop-cons, refl, arith, sym, ◌∙◌, ap, subst, length-append, inl, inr, Option, Some, None, Result, Ok, Err, IfOk}
+use Rattle.std.proofs.Common.{◌≡◌, ◌⊎◌, ℕ, suc, ◌+◌, ◌-◌, ◌<◌, ◌≤◌, ◌^◌, List, [], ◌∷◌, ◌++◌, length, take, drop, map, get_or, drop-cons, refl, arith, sym, ◌∙◌, ap, subst, length-append, inl, inr, Option, None, Result, Ok, Err, IfOk}
 use Rattle.std.proofs.KnownBytes.{Appends-nil, Appends-trans}
 use Rattle.std.proofs.Math.Seq.{drop-length}
 use Rattle.std.proofs.lemmas.List.{append-nil, map-append, take-append-drop}
@@ -19,9 +19,9 @@ use Rattle.sst_parts.specs.PartWriting.{AppendsPart, AppendsParted, AppendsTop, 
 use Rattle.sst_parts.proofs.Joins.{joined-append, joined-map, zip-map}
 use Rattle.sstable_blocks.specs.EndLaws.{ends_in_order}
 use Rattle.sstable_blocks.specs.Blocks.{joined}
-use Rattle.sstable_blocks.specs.Footer.{footer, run_end, run_end_by}
+use Rattle.sstable_blocks.specs.Footer.{footer, run_end}
 use Rattle.sstable_blocks.specs.Lookup.{IsEnd}
-use Rattle.sstable_blocks.specs.Run.{Form, IsLayout, run_handles, run_text}
+use Rattle.sstable_blocks.specs.Run.{Form}
 use Rattle.sstable_blocks.specs.Writing.{AppendsLayout, IsWriteRefusal, PartFits}
 use Rattle.sstable_blocks.specs.declared.run.RunHandles.{RunHandles}
 use Rattle.sstable_blocks.specs.TableEndLaws.{footer-length, layout-end}

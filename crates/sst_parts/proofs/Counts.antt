@@ -1,37 +1,13 @@
 -- What a read of a part counts, in terms of the part's bytes.
-use Rattle.std.proofs.Common.{◌≡◌, ◌≢◌, ℕ, ◌+◌, ◌≤◌, Bool, List, length, take, drop, arith, refl, sym, ◌∙◌, ap, subst, eqb, leb, Option, Some, None, IfSome, IfOk, IfErr, Result, Ok, Err}
-use Rattle.std.proofs.lemmas.Bool.{leb-true, eqb-true}
+use Rattle.std.proofs.Common.{◌≡◌, ℕ, List, length, arith, subst, Option, Some, None, IfSome}
 use Rattle.std.specs.Option.{option_map}
-use Rattle.sst_base.specs.Block.{BlockParts}
 use Rattle.sst_base.specs.BlockHandle.{HandleParts}
-use Rattle.sst_base.specs.BlockType.{block_type_byte, block_type_of}
-use Rattle.sst_base.specs.Bytes.{IsBytes}
-use Rattle.sst_base.specs.BytesLaws.{IsBytes-take, IsBytes-drop}
 use Rattle.sst_base.specs.Counted.{Counted, CountsBetween}
-use Rattle.sst_base.specs.Frame.{frame, frame_in, of_type, payload_of_type}
-use Rattle.sst_base.specs.FrameLaws.{frame_in_takes}
-use Rattle.sst_base.specs.HeaderLaws.{bind_ok, guard_ok, block_type_of-byte}
-use Rattle.sst_base.specs.declared.error.Error.{Error}
-use Rattle.sst_base.specs.declared.error.Error.TheVariants.{Io, Memory}
-use Rattle.sst_base.specs.declared.table.block.block_type.BlockType.{BlockType}
-use Rattle.sst_base.specs.declared.table.block.block_type.BlockType.TheVariants as types
-use Rattle.sst_block_core.specs.Checks.{index_check, IndexVerdict}
-use Rattle.sst_block_core.specs.DataBlock.{DataBlockParts, data_block_of}
-use Rattle.sst_block_core.specs.Entries.{entries}
 use Rattle.sst_block_core.specs.Handles.{Handle, handles}
-use Rattle.sst_block_core.specs.IndexBlock.{IndexBlockParts, index_block_of}
 use Rattle.sst_block_core.specs.Intervals.{digits}
-use Rattle.sst_block_core.specs.PointReads.{entries_most, heads_most, lookup, read_entries, read_heads, read_most}
-use Rattle.sst_block_core.specs.Pointers.{head_count}
-use Rattle.sst_block_core.specs.Stages.{items_in}
-use Rattle.sst_block_core.specs.Trailer.{trailer_in}
-use Rattle.sst_block_core.specs.declared.table.block.hash_index.reader.Lookup.{Lookup}
-use Rattle.sst_block_core.specs.declared.table.block.hash_index.reader.Lookup.TheVariants.{Nowhere, Interval, Anywhere}
-use Rattle.sstable_blocks.specs.OpeningLaws.{frame_range}
 use Rattle.sstable_blocks.specs.Lookup.{handle_for}
-use Rattle.sstable_blocks.specs.Opened.{index_in, range_of, payload_in}
+use Rattle.sstable_blocks.specs.Opened.{index_in, range_of}
 use Rattle.sstable_blocks.specs.ReadCosts.{entries_at, find_cost, heads_at, interval_in, most_by}
-use Rattle.sstable_blocks.specs.RunReading.{Hashes, IsFramedAt, payload_at, range_at}
 use Rattle.sstable_blocks.specs.Tables.{IsIndexIn}
 
 -- nothing was counted

@@ -2,6 +2,7 @@ pub mod Blocks
 pub mod CheckedReads
 pub mod Closings
 pub mod Counts
+pub mod EndScans
 pub mod FileOpenings
 pub mod Files
 pub mod Footers
@@ -10,9 +11,14 @@ pub mod Located
 pub mod Longer
 pub mod Needles
 pub mod Openings
+pub mod PartEnds
 pub mod PartReads
+pub mod PartedScans
 pub mod PartSteps
 pub mod Places
+pub mod RangeEnds
 pub mod Ranges
+pub mod Reaching
 pub mod Rising
 pub mod Sounds
+pub mod Windows

@@ -4,7 +4,6 @@ use Rattle.std.specs.List.{slice_get}
 use Rattle.std.specs.Prelude.{IsOkUnless, nat_lt}
 use Rattle.std.proofs.lemmas.Bool.{cases_Bool, ltb-false}
 use Rattle.std.proofs.lemmas.Option.{slice_get_past}
-use Rattle.sst_base.specs.BlockHandle.{HandleParts}
 use Rattle.sst_base.specs.Entry.{Entry}
 use Rattle.sst_base.specs.Header.{◌>>=◌}
 use Rattle.sst_base.specs.HeaderLaws.{bind_ok}
@@ -18,10 +17,9 @@ use Rattle.sst_block_core.specs.Handles.{Handle, handles}
 use Rattle.sst_block_core.specs.Window.{first_match}
 use Rattle.sst_parts.specs.ManyReads.{IsOpenAt, block_place, located, read_at}
 use Rattle.sstable_blocks.specs.KeptLaws.{blocks_same}
-use Rattle.sstable_blocks.specs.Filter.{filter_at}
 use Rattle.sstable_blocks.specs.Lookup.{handle_for, place_for}
 use Rattle.sstable_blocks.specs.Opened.{range_of}
-use Rattle.sstable_blocks.specs.RunReading.{Hashes, block_items_at, filter_answer, filter_says, handles_at, payload_at, read_block, read_blocks, read_checked}
+use Rattle.sstable_blocks.specs.RunReading.{Hashes, block_items_at, handles_at, payload_at, read_block, read_blocks, read_checked}
 use Rattle.sstable_blocks.specs.Scans.{AtHandle}
 use Rattle.sstable_blocks.specs.SourceLaws.{source_fails}
 use Rattle.sstable_blocks.specs.Sources.{FailsAs, GivesOr}

@@ -1,20 +1,13 @@
 -- Frames in ranges, and the ends of parts.
-use Rattle.std.proofs.Common.{◌≡◌, ℕ, ◌+◌, ◌-◌, List, [], ◌∷◌, ◌++◌, length, take, drop, refl, arith, sym, ◌∙◌, ap}
-use Rattle.std.proofs.lemmas.List.{drop_at, drop-drop, drop-take, length-take-le, length-drop}
+use Rattle.std.proofs.Common.{ℕ, List, [], ◌∷◌}
 use Rattle.std.specs.List.{AllZip}
-use Rattle.sst_base.specs.BlockHandle.{HandleParts}
 use Rattle.sst_base.specs.Entry.{Entry}
-use Rattle.sst_base.specs.Frame.{frame, header_for}
-use Rattle.sst_base.specs.FrameLaws.{length-header, length-frame}
-use Rattle.sst_base.specs.Header.{header}
-use Rattle.sst_base.specs.declared.table.block.block_type.BlockType.{BlockType}
 use Rattle.sst_block_core.specs.Entries.{entries}
 use Rattle.sst_block_core.specs.Handles.{Handle, handles}
 use Rattle.sst_parts.specs.Parts.{IsStoredPart}
 use Rattle.sstable_blocks.specs.Blocks.{joined}
 use Rattle.sstable_blocks.specs.Lookup.{IsEnd}
-use Rattle.sstable_blocks.specs.Opened.{IsFrameRange, payload_in}
-use Rattle.sstable_blocks.specs.RunReading.{Hashes, IsFramedAt}
+use Rattle.sstable_blocks.specs.RunReading.{Hashes}
 
 module _ (c : Hashes) (bytes : List ℕ) where
   -- the handles of the parts have their last entries

@@ -1,24 +1,19 @@
 -- A checked read of a partitioned table gives the first match of its parts.
 use Rattle.std.proofs.Common.{◌≡◌, ℕ, zero, suc, ◌+◌, ◌-◌, ◌<◌, ◌≤◌, ◌^◌, List, [], ◌∷◌, length, take, drop, refl, arith, sym, ◌∙◌, ap, subst, if◌then◌else◌, Result, Ok, Err}
-use Rattle.std.proofs.lemmas.Bool.{le-leb, eq-eqb}
+use Rattle.std.proofs.lemmas.Bool.{le-leb}
 use Rattle.std.proofs.lemmas.List.{drop-take, drop-drop, length-take-le, length-drop}
 use Rattle.std.specs.List.{AllZip, slice_get}
 use Rattle.std.specs.Option.{option_map}
 use Rattle.sst_base.specs.BlockHandle.{HandleParts}
-use Rattle.sst_base.specs.BlockType.{block_type_byte}
 use Rattle.sst_base.specs.Entry.{Entry}
-use Rattle.sst_base.specs.Frame.{frame, of_type, payload_of_type}
-use Rattle.sst_base.specs.FrameLaws.{frame_in-frame}
 use Rattle.sst_base.specs.Header.{◌>>=◌}
 use Rattle.sst_base.specs.declared.error.Error.{Error}
-use Rattle.sst_base.specs.declared.error.Error.TheVariants.{Io, Memory, InvalidHeader, InvalidTag, ChecksumMismatch, LengthMismatch, TooLong, Truncated, BadTrailer, BadEntry, OutOfOrder, BadIndex, BadHashIndex, BadFilter, BadHandle}
-use Rattle.sst_base.specs.declared.error.TagName.TheVariants as tags
-use Rattle.sst_base.specs.declared.table.block.block_type.BlockType.{BlockType}
+use Rattle.sst_base.specs.declared.error.Error.TheVariants.{BadHandle}
 use Rattle.sst_base.specs.declared.table.block.block_type.BlockType.TheVariants as types
 use Rattle.sst_block_core.specs.Entries.{entries}
 use Rattle.sst_block_core.specs.Kind.{IsOrdered}
-use Rattle.sst_block_core.specs.Stages.{items_by, items_in}
-use Rattle.sst_block_core.specs.Trailer.{Trailer, trailer_in}
+use Rattle.sst_block_core.specs.Stages.{items_in}
+use Rattle.sst_block_core.specs.Trailer.{trailer_in}
 use Rattle.sst_block_core.specs.Window.{first_match}
 use Rattle.sst_block_core.specs.Checks.{index_check, IndexVerdict}
 use Rattle.sst_block_core.specs.Handles.{Handle, handles, IsIndexBlock, IndexPasses, IndexPassesBy}
@@ -32,7 +27,7 @@ use Rattle.sstable_blocks.specs.Blocks.{joined}
 use Rattle.sstable_blocks.specs.Footer.{footer_handles, table_handles}
 use Rattle.sstable_blocks.specs.Lookup.{IsEnd, first_in, handle_for, place_for}
 use Rattle.sstable_blocks.specs.Opened.{range_of}
-use Rattle.sstable_blocks.specs.RunReading.{Hashes, IsFramedAt, range_at, payload_at, read_checked}
+use Rattle.sstable_blocks.specs.RunReading.{Hashes, range_at, read_checked}
 use Rattle.sstable_blocks.specs.Sound.{IsSound}
 use Rattle.sstable_blocks.specs.declared.run.RunHandles.{RunHandles}
 use Rattle.sstable_blocks.specs.SoundReadLaws.{bind_to, index_ok, framed_is_read}

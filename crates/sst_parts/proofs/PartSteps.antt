@@ -2,7 +2,7 @@
 use Rattle.std.proofs.Common.{◌≡◌, ℕ, ◌<◌, ◌≤◌, List, length, arith, sym, ◌∙◌, ap, subst, inl, inr, Option, Some, None, IfSome, Result, Ok}
 use Rattle.std.specs.Option.{option_map}
 use Rattle.sst_base.specs.BlockHandle.{HandleParts}
-use Rattle.sst_base.specs.Counted.{Counted, CountsBetween, found_item}
+use Rattle.sst_base.specs.Counted.{Counted, CountsBetween}
 use Rattle.sst_base.specs.Entry.{Entry}
 use Rattle.sst_base.specs.Header.{◌>>=◌}
 use Rattle.sst_base.specs.declared.error.Error.{Error}
@@ -16,7 +16,6 @@ use Rattle.sstable_blocks.specs.SourceLaws.{source_fails}
 use Rattle.sstable_blocks.specs.Sources.{FailsAs, GivesOr, filter_frames}
 use Rattle.sstable_blocks.specs.declared.run.RunHandles.{RunHandles}
 use Rattle.sstable_blocks.specs.CheckedLaws.{gives_or_later}
-use Rattle.sstable_blocks.specs.BoundLaws.{found_by}
 
 -- a filter is one frame, if there is one
 pub one_filter : (o : Option HandleParts) → filter_frames o ≤ 1

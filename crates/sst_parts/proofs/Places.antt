@@ -1,18 +1,17 @@
 -- Reading the footer of a part, and the handles of an index of parts.
-use Rattle.std.proofs.Common.{◌≡◌, ℕ, zero, suc, ◌+◌, ◌-◌, ◌<◌, ◌≤◌, ◌^◌, List, [], ◌∷◌, length, take, drop, arith, sym, ◌∙◌, ap, subst, true, false, cond, inl, inr, Option, Some, None, IfSome, IfErr, OnOk, Result, Ok, Err, if◌then◌else◌}
+use Rattle.std.proofs.Common.{◌≡◌, ℕ, zero, suc, ◌+◌, ◌-◌, ◌<◌, ◌≤◌, ◌^◌, List, [], ◌∷◌, length, take, drop, arith, sym, ◌∙◌, ap, subst, true, false, cond, inl, inr, Option, Some, None, IfSome, OnOk, Result, Ok, Err}
 use Rattle.std.specs.Prelude.{nat_le, nat_lt}
 use Rattle.std.proofs.lemmas.Bool.{cases_Bool}
 use Rattle.std.proofs.lemmas.Bool.Decides.{nat_tests}
 use Rattle.std.specs.List.{AllByRecursion, slice_get}
 use Rattle.std.specs.Option.{option_map}
 use Rattle.sst_base.specs.BlockHandle.{HandleParts}
-use Rattle.sst_base.specs.FrameErrorLaws.{NotIo}
 use Rattle.sst_base.specs.Header.{◌>>=◌}
 use Rattle.sst_base.specs.declared.error.Error.{Error}
-use Rattle.sst_base.specs.declared.error.Error.TheVariants.{Io, Truncated, BadHandle}
+use Rattle.sst_base.specs.declared.error.Error.TheVariants.{Truncated, BadHandle}
 use Rattle.sst_block_core.specs.Handles.{Handle, handles, EndFits, IsIndexBlock}
 use Rattle.sst_parts.specs.Parts.{part_footer, places_in}
-use Rattle.sstable_blocks.specs.Footer.{footer_handles, parts_at, filter_of}
+use Rattle.sstable_blocks.specs.Footer.{footer_handles}
 use Rattle.sstable_blocks.specs.Lookup.{handle_for, place_for}
 use Rattle.sstable_blocks.specs.Opened.{range_of}
 use Rattle.sstable_blocks.specs.RunReading.{range_at}

@@ -1,3 +1,4 @@
 pub mod ManyReads
 pub mod Parts
+pub mod PartScans
 pub mod PartWriting

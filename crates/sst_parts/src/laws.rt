@@ -1,26 +1,32 @@
 //! Laws of parted tables. Each function does nothing, and its contract is one law: a caller has it in
 //! its proof by calling the function.
-ghost use Rattle.std.specs.Prelude.{◌≡◌, ◌++◌, ◌<◌, ◌^◌, ℕ, List, None, Ok, Option, slice_get};
+ghost use Rattle.std.specs.Prelude.{◌≡◌, ◌++◌, ◌<◌, ◌^◌, ℕ, List, None, Ok, Option, map};
+ghost use Rattle.std.specs.Prelude.{slice_get};
 ghost use Rattle.std.specs.List.{AllZip};
 ghost use Rattle.std.specs.Option.{option_map};
 ghost use Rattle.sst_base.specs.BlockHandle.{HandleParts};
-ghost use Rattle.sst_base.specs.Entry.{Entry};
+ghost use Rattle.sst_base.specs.Entry.{Entry, plain};
 ghost use Rattle.sst_block_core.specs.Entries.{entries};
 ghost use Rattle.sst_block_core.specs.Handles.{Handle, handles};
 ghost use Rattle.sst_block_core.specs.Kind.{IsOrdered};
 ghost use Rattle.sst_block_core.specs.Window.{first_match};
 ghost use Rattle.sst_parts.specs.ManyReads.{IsRising, different, indexes, many_frames};
+ghost use Rattle.sst_parts.specs.PartScans.{parts_read};
 ghost use Rattle.sst_parts.specs.PartWriting.{IsPartedFile, IsPartedLayout};
 ghost use Rattle.sst_parts.specs.Parts.{IsParted, read_by_top, tops_at, tops_by_footer};
 ghost use Rattle.sstable_blocks.specs.Blocks.{joined};
 ghost use Rattle.sstable_blocks.specs.Lookup.{IsEnd, first_in, handle_for, place_for};
 ghost use Rattle.sstable_blocks.specs.Run.{Form};
 ghost use Rattle.sstable_blocks.specs.RunReading.{Hashes, hashes};
+ghost use Rattle.sstable_blocks.specs.Scans.{KeyRange, handles_within, within};
 
 use sst_base::InternalValue;
 use sst_block_core::laws::{index_block_is_read, index_check_is_by_stages};
 use sst_block_core::{BlockItem, KeyedBlockHandle};
-use sstable_blocks::run::laws::{first_match_is_in_one_block, layout_is_sound, sound_is_read};
+use sstable_blocks::run::laws::{
+    first_match_is_in_one_block, layout_is_sound, sound_is_read, sound_is_scanned,
+    sound_run_is_read,
+};
 
 /// The first match of an ordered list in parts of blocks is that of the one part at which a search
 /// by key and sequence number over the ends of the parts stops, and there is none where it passes
@@ -50,6 +56,22 @@ pub fn parted_is_read()
     index_block_is_read();
     sound_is_read();
     first_match_is_in_one_part::<InternalValue, KeyedBlockHandle>();
+}
+
+/// The parts of a parted table that can have a key in a range, by the index of the parts alone, are
+/// read as the entries of all parts in the range.
+pub fn parted_is_scanned()
+    ensures { (c : Hashes) (parts : List (List (List Entry))) (bytes : List ℕ) (top : HandleParts)
+        (tops : List Handle) (r : KeyRange)
+        → ((xs : List ℕ) → c.hash128 xs < 2 ^ 128) → IsParted c parts bytes top
+        → tops_at c bytes top ≡ Ok tops
+        → parts_read c bytes r (handles_within r tops)
+        ≡ map Ok (within r (map plain (joined (joined parts)))) }
+{
+    index_check_is_by_stages();
+    index_block_is_read();
+    sound_run_is_read();
+    sound_is_scanned();
 }
 
 /// The layout of a parted table, as [`PartWriter`](crate::PartWriter) writes it, is the file of a parted

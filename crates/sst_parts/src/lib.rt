@@ -1,14 +1,18 @@
 //! Over `sstable_blocks`: parted tables, which are table files one after the other and an index over
-//! them, of which a read reads of one part the footer, the filter, the index and one block; and reads
-//! of many keys of a table, each block once.
+//! them, of which a read reads of one part the footer, the filter, the index and one block; scans of
+//! them from both ends, a part at a time; and reads of many keys of a table, each block once.
 #![tactic(auto)]
 
 mod closed;
 pub mod laws;
 pub mod many;
 mod part;
+mod part_bytes;
+pub mod scan;
+mod scan_end;
 pub mod table;
 pub mod writer;
 
+pub use scan::PartedScan;
 pub use table::PartedTable;
 pub use writer::{PartSizes, PartWriter};

@@ -10,13 +10,16 @@ ghost use Rattle.sstable_blocks.specs.Footer.{table_handles};
 ghost use Rattle.sstable_blocks.specs.Lookup.{handle_for};
 ghost use Rattle.sstable_blocks.specs.Opened.{range_of};
 ghost use Rattle.sstable_blocks.specs.ReadCosts.{find_cost};
-ghost use Rattle.sstable_blocks.specs.RunReading.{hashes};
-ghost use Rattle.sstable_blocks.specs.Sources.{AsksExactly, AsksIfOk, AsksUpTo, FailsAs, ReadsAs};
-ghost use Rattle.sstable_blocks.specs.Sources.{UsesSource};
+ghost use Rattle.sstable_blocks.specs.RunReading.{hashes, range_at};
+ghost use Rattle.sstable_blocks.specs.Scans.{AtHandle};
+ghost use Rattle.sstable_blocks.specs.Sources.{AsksExactly, AsksIfOk, AsksUpTo, FailsAs, GivesOr};
+ghost use Rattle.sstable_blocks.specs.Sources.{ReadsAs, UsesSource};
 
 use crate::laws::parted_is_read;
 use crate::part::{find_range, read_in_part};
-use sst_base::{BlockHandle, BlockHash, BlockType, Error, InternalValue, Result, SeqNo, Steps};
+use sst_base::{
+    BlockHandle, BlockHash, BlockType, Error, InternalValue, Result, SeqNo, Slice, Steps,
+};
 use sst_block_core::IndexBlock;
 use sst_block_core::laws::index_check_is_by_stages;
 use sstable_blocks::run::checked::block_from;
@@ -201,6 +204,28 @@ impl<H: BlockHash, S: FrameSource> PartedTable<H, S> {
     {
         parted_is_read();
         read_by_tops::<H, S>(alloc, &mut self.source, &self.index, needle, seqno, steps)
+    }
+
+    // Reads the bytes of the part of the handle at an index.
+    pub(crate) fn part_at(&mut self, alloc: Global, index: usize) -> Result<Slice>
+        requires { index < length self.old.tops }
+        ensures kept { self.new ≡ record self.old { source = self.new.source } }
+        ensures source { UsesSource S.bytes S.failures S.reads S.is_reliable
+            (AsksExactly 1) self.old.source self.new.source result }
+        ensures exact { AtHandle (S.bytes self.old.source) self.old.tops index (λ all h.
+            GivesOr (S.failures self.old.source < S.failures self.new.source)
+            (S.is_reliable self.old.source) (λ s. s) result (range_at all (range_of h))) }
+    {
+        let handle = self.index.handle_at(index, &mut Steps::new());
+        self.source.read_frame(alloc, &handle)
+    }
+
+    // States in a proof that the handles of the parts are those of the source's bytes.
+    pub(crate) fn note_kept(&self)
+        ensures { IfSome (S.bytes self.now.source)
+            (λ all. tops_at (hashes H.hash64 H.hash128) all self.now.top ≡ Ok self.now.tops) }
+    {
+        let _top = &self.top;
     }
 
     /// Returns where the index of the parts is.
