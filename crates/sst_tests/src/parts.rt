@@ -129,15 +129,18 @@ fn scanned(
             break;
         };
         let key = InternalValue::key(&entry);
-        let place = (key.user_key().as_slice().last().copied().unwrap_or(0), key.seqno());
+        let place = (
+            key.user_key().as_slice().last().copied().unwrap_or(0),
+            key.seqno(),
+        );
         if forwards {
             front.push(place)?;
         } else {
             back.push(place)?;
         }
     }
-    while let Some(place) = back.pop() {
-        front.push(place)?;
+    for place in back.iter().rev() {
+        front.push(*place)?;
     }
     Ok(front)
 }
@@ -167,7 +170,10 @@ fn parts_are_scanned_from_both_ends(rt: HostRuntime) -> Tested {
                 let found = scanned(alloc, all, from, to, pattern)?;
                 assert_eq!(rt; found.as_slice(), wanted(alloc, 0, 12)?.as_slice());
                 let all = written(alloc, len, sizes, 10)?;
-                let (from, to) = (Bound::Excluded(b"k\x03".as_slice()), Bound::Included(b"k\x09".as_slice()));
+                let (from, to) = (
+                    Bound::Excluded(b"k\x03".as_slice()),
+                    Bound::Included(b"k\x09".as_slice()),
+                );
                 let found = scanned(alloc, all, from, to, pattern)?;
                 assert_eq!(rt; found.as_slice(), wanted(alloc, 4, 9)?.as_slice());
             }

@@ -270,7 +270,10 @@ const FRAMES: usize = 29;
 #[test]
 fn an_error_ends_a_merge_that_is_moved(rt: HostRuntime) {
     for fails_at in 0..FRAMES {
-        assert!(rt; take_steps(&rt, rt.alloc(), fails_at) == Err(Error::Io), "{fails_at}");
+        assert!(rt;
+            take_steps(&rt, rt.alloc(), fails_at) == Err(Error::Io),
+            "{fails_at}"
+        );
     }
     assert!(rt; take_steps(&rt, rt.alloc(), FRAMES) == Ok(()));
 }
