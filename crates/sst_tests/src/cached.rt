@@ -1,13 +1,15 @@
 // Tables that are read through a cache of blocks, against reads without one.
 ghost use Rattle.std.specs.Prelude.{OnOk};
 ghost use Rattle.sst_parts.specs.Caches.{IsAdded, StillAdded};
+ghost use Rattle.sst_parts.specs.ManyReads.{IsOpened};
+ghost use Rattle.sstable_blocks.specs.RunReading.{hashes};
 
 use crate::Tested;
 use crate::runs::lists::{NO_BUCKETS, push};
 use crate::runs::written::write_in_blocks;
 use sst_base::{BlockHash, ByteSum, Error, InternalValue, Result, Slice, Steps, ValueType};
 use sst_parts::{BlockCache, CachedTable};
-use sstable_blocks::run::{FrameSource, MemorySource, RunConfig, Table};
+use sstable_blocks::run::{FrameSource, MemorySource, RunConfig, RunHandles, Table};
 use std::alloc::Global;
 
 // Ten keys of three versions each, at the sequence numbers 3 to 1.
@@ -29,13 +31,12 @@ fn entries(alloc: Global) -> Result<Vec<InternalValue>> {
     Ok(list)
 }
 
-// A table of these entries in memory, in a block for each key.
-fn table(alloc: Global) -> Result<Table<ByteSum, MemorySource>> {
+// A run of these entries, in a block for each key.
+fn run(alloc: Global) -> Result<(RunHandles, Slice)> {
     let list = entries(alloc)?;
     let config = RunConfig::new(2, NO_BUCKETS, 0);
     let (handles, bytes) = write_in_blocks(alloc, Vec::new(alloc), list.as_slice(), 3, config)?;
-    let source = MemorySource::new(Slice::from_vec(bytes)?);
-    Ok(Table::open(alloc, source, handles)?)
+    Ok((handles, Slice::from_vec(bytes)?))
 }
 
 // Whether two reads found the same version of the same key, or nothing.
@@ -67,25 +68,20 @@ fn differs<H: BlockHash, S: FrameSource>(
     Ok(!same(&got, &want))
 }
 
-// How many reads of two tables through one cache differ from reads without it.
+// How many reads of a table through a cache differ from reads without it.
 fn count_wrong<H: BlockHash, S: FrameSource>(
     alloc: Global,
     cache: &mut BlockCache<H>,
-    first: &mut CachedTable<H, S>,
-    second: &mut CachedTable<H, S>,
+    cached: &mut CachedTable<H, S>,
     plain: &mut Table<H, S>,
 ) -> Result<u64>
-    requires first { IsAdded S.bytes cache.old first.old }
-    requires second { IsAdded S.bytes cache.old second.old }
+    requires { IsAdded S.bytes cache.old cached.old }
 {
     let mut wrong = 0u64;
     for key in 0u8..21 {
         for seqno in 0u64..5 {
             let needle = [b'k', key];
-            if differs(alloc, cache, first, plain, &needle, seqno)? {
-                wrong = wrong.saturating_add(1);
-            }
-            if differs(alloc, cache, second, plain, &needle, seqno)? {
+            if differs(alloc, cache, cached, plain, &needle, seqno)? {
                 wrong = wrong.saturating_add(1);
             }
         }
@@ -93,30 +89,64 @@ fn count_wrong<H: BlockHash, S: FrameSource>(
     Ok(wrong)
 }
 
-// What a cache of so many bytes counts where two tables are read: wrong reads, hits, misses, and the
-// bytes of its blocks.
+// The same of a table that is added to the cache.
+fn wrong_through<H: BlockHash, S: FrameSource + Drop>(
+    alloc: Global,
+    cache: &mut BlockCache<H>,
+    table: Table<H, S>,
+    plain: &mut Table<H, S>,
+) -> Result<u64>
+    requires { IsOpened (hashes H.hash64 H.hash128) S.bytes table }
+{
+    match CachedTable::new(cache, table) {
+        Ok(mut cached) => count_wrong(alloc, cache, &mut cached, plain),
+        Err(_) => Err(Error::TooLong),
+    }
+}
+
+// The same of a run in memory.
+fn wrong_of(
+    alloc: Global,
+    cache: &mut BlockCache<ByteSum>,
+    run: Slice,
+    handles: &RunHandles,
+    plain: &mut Table<ByteSum, MemorySource>,
+) -> Result<u64> {
+    match Table::open(alloc, MemorySource::new(run), *handles) {
+        Ok(table) => wrong_through(alloc, cache, table, plain),
+        Err(failed) => Err(failed.error),
+    }
+}
+
+// The same of a run in memory, which is opened for both.
+fn wrong_in(
+    alloc: Global,
+    cache: &mut BlockCache<ByteSum>,
+    run: Slice,
+    handles: &RunHandles,
+) -> Result<u64> {
+    let copy = run.clone()?;
+    match Table::open(alloc, MemorySource::new(copy), *handles) {
+        Ok(mut plain) => wrong_of(alloc, cache, run, handles, &mut plain),
+        Err(failed) => Err(failed.error),
+    }
+}
+
+// What a cache of so many bytes counts: wrong reads, hits, misses, and the bytes of its blocks.
 fn counts(alloc: Global, most: u64) -> Result<(u64, u64, u64, u64)> {
     let mut cache = BlockCache::<ByteSum>::new(alloc, most)?;
-    let Ok(mut first) = CachedTable::new(&mut cache, table(alloc)?) else {
-        return Err(Error::TooLong);
-    };
-    let Ok(mut second) = CachedTable::new(&mut cache, table(alloc)?) else {
-        return Err(Error::TooLong);
-    };
-    let mut plain = table(alloc)?;
-    let wrong = count_wrong(alloc, &mut cache, &mut first, &mut second, &mut plain)?;
+    let (handles, bytes) = run(alloc)?;
+    let wrong = wrong_in(alloc, &mut cache, bytes, &handles)?;
     Ok((wrong, cache.hits(), cache.misses(), cache.bytes()))
 }
 
-// Of 210 reads 196 lead to a block: each block is read once where all fit, at each read where none
-// does, and where one of each table fits as often as the block of a table changes.
+// Of 105 reads 98 lead to a block: each of ten blocks is read once where all fit, at each read where
+// none does, and as often as the block changes where one fits.
 #[test]
 fn cached_reads_are_reads(rt: HostRuntime) -> Tested {
     let (wrong, hits, misses, bytes) = counts(rt.alloc(), 1 << 20)?;
-    assert_eq!(rt; (wrong, hits, misses), (0, 176, 20));
-    assert_eq!(rt; counts(rt.alloc(), 0)?, (0, 0, 196, 0));
-    let one = bytes / 20;
-    assert_eq!(rt; counts(rt.alloc(), one)?, (0, 0, 196, one));
-    assert_eq!(rt; counts(rt.alloc(), bytes / 10)?, (0, 140, 56, bytes / 10));
+    assert_eq!(rt; (wrong, hits, misses), (0, 88, 10));
+    assert_eq!(rt; counts(rt.alloc(), 0)?, (0, 0, 98, 0));
+    assert_eq!(rt; counts(rt.alloc(), bytes / 10)?, (0, 70, 28, bytes / 10));
     Ok(())
 }
