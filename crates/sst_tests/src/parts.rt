@@ -2,7 +2,8 @@
 use crate::Tested;
 use crate::runs::faults::FailingSource;
 use sst_base::{BlockHandle, ByteSum, Error, HashRatio, InternalValue, Slice, Steps, ValueType};
-use sst_parts::{PartSizes, PartWriter, PartedTable};
+use sst_parts::{PartSizes, PartWriter, PartedScan, PartedTable};
+use sstable_blocks::run::FrameSource;
 use sstable_blocks::{MemorySource, RunConfig};
 use std::alloc::Global;
 use std::ops::Bound;
@@ -104,49 +105,63 @@ fn versions_across_parts_are_read(rt: HostRuntime) -> Tested {
     Ok(())
 }
 
-// The entries that a scan of a parted table gives between two keys, by steps from the front where a
-// pattern has a 1 for them, else from the back, put in order: keys and sequence numbers.
-fn scanned(
+// A place of an entry: the last byte of its key, and its sequence number.
+type Place = (u8, u64);
+
+// The entry that a step of a scan gives, from the front or from the back.
+fn step<S: FrameSource>(
     alloc: Global,
-    bytes: Vec<u8>,
-    from: Bound<&[u8]>,
-    to: Bound<&[u8]>,
-    pattern: u64,
-) -> sst_base::Result<Vec<(u8, u64)>> {
-    let source = MemorySource::new(Slice::from_vec(bytes)?);
-    let table = PartedTable::<ByteSum, MemorySource>::open_file(alloc, source)?;
-    let mut scan = table.scan_range(from, to);
-    let mut front = Vec::new(alloc);
-    let mut back = Vec::new(alloc);
-    for i in 0u64..100 {
-        let forwards = (pattern >> (i % 8)) % 2 == 1;
-        let found = if forwards {
-            scan.next_entry(alloc)?
-        } else {
-            scan.next_entry_back(alloc)?
-        };
-        let Some(entry) = found else {
-            break;
-        };
-        let key = InternalValue::key(&entry);
-        let place = (
-            key.user_key().as_slice().last().copied().unwrap_or(0),
-            key.seqno(),
-        );
-        if forwards {
-            front.push(place)?;
-        } else {
-            back.push(place)?;
-        }
+    scan: &mut PartedScan<'_, ByteSum, S>,
+    forwards: bool,
+) -> sst_base::Result<Option<InternalValue>> {
+    if forwards {
+        scan.next_entry(alloc)
+    } else {
+        scan.next_entry_back(alloc)
     }
-    for place in back.iter().rev() {
-        front.push(*place)?;
-    }
-    Ok(front)
 }
 
-// The entries of six keys, of which those from one up to another are wanted.
-fn wanted(alloc: Global, first: u8, last: u8) -> sst_base::Result<Vec<(u8, u64)>> {
+// Where an entry is.
+fn place_of(entry: &InternalValue) -> Place {
+    let key = entry.key();
+    let last = key.user_key().as_slice().last().copied();
+    (last.unwrap_or(0), key.seqno())
+}
+
+// How many steps of a scan give no entry that is wanted at its place: from the front where a pattern
+// has a 1 for them, else from the back, as many as entries are wanted and one more.
+fn wrong_steps<S: FrameSource>(
+    alloc: Global,
+    scan: &mut PartedScan<'_, ByteSum, S>,
+    wanted: &[Place],
+    pattern: u64,
+) -> sst_base::Result<u64> {
+    let mut wrong = 0u64;
+    let mut left = wanted;
+    for i in 0..60u64 {
+        let forwards = (pattern >> (i % 8)) % 2 == 1;
+        let found = step(alloc, scan, forwards)?;
+        let got = found.as_ref().map(place_of);
+        let (want, rest) = next_wanted(left, forwards);
+        left = rest;
+        if got != want {
+            wrong = wrong.saturating_add(1);
+        }
+    }
+    Ok(wrong)
+}
+
+// The place at an end of those that are wanted, if there is one, and the others.
+fn next_wanted(left: &[Place], forwards: bool) -> (Option<Place>, &[Place]) {
+    match left {
+        [] => (None, left),
+        [first, rest @ ..] if forwards => (Some(*first), rest),
+        [rest @ .., last] => (Some(*last), rest),
+    }
+}
+
+// The places of six keys, of which those from one up to another are wanted.
+fn wanted(alloc: Global, first: u8, last: u8) -> sst_base::Result<Vec<Place>> {
     let mut list = Vec::new(alloc);
     for key in 0u8..6 {
         for i in 0u64..9 {
@@ -158,36 +173,72 @@ fn wanted(alloc: Global, first: u8, last: u8) -> sst_base::Result<Vec<(u8, u64)>
     Ok(list)
 }
 
-#[test]
-fn parts_are_scanned_from_both_ends(rt: HostRuntime) -> Tested {
-    let alloc = rt.alloc();
-    for len in [1usize, 4, 9] {
-        for blocks in [0usize, 1, 3] {
-            let sizes = PartSizes { blocks, bytes: 0 };
-            for pattern in [255u64, 0, 0b0110_0101] {
-                let all = written(alloc, len, sizes, 10)?;
-                let (from, to) = (Bound::Unbounded, Bound::Unbounded);
-                let found = scanned(alloc, all, from, to, pattern)?;
-                assert_eq!(rt; found.as_slice(), wanted(alloc, 0, 12)?.as_slice());
-                let all = written(alloc, len, sizes, 10)?;
-                let (from, to) = (
-                    Bound::Excluded(b"k\x03".as_slice()),
-                    Bound::Included(b"k\x09".as_slice()),
-                );
-                let found = scanned(alloc, all, from, to, pattern)?;
-                assert_eq!(rt; found.as_slice(), wanted(alloc, 4, 9)?.as_slice());
-            }
-        }
-    }
-    Ok(())
+// A parted table of six keys in memory.
+fn opened(
+    alloc: Global,
+    len: usize,
+    blocks: usize,
+) -> sst_base::Result<PartedTable<ByteSum, MemorySource>> {
+    let bytes = written(alloc, len, PartSizes { blocks, bytes: 0 }, 10)?;
+    let source = MemorySource::new(Slice::from_vec(bytes)?);
+    Ok(PartedTable::open_file(alloc, source)?)
 }
 
-// How many entries a scan of six parts gives over a source that fails at a call, and the errors of the
-// step after them and of one from the back.
+// How many steps of a scan of all keys are wrong.
+fn wrong_in_all(alloc: Global, len: usize, blocks: usize, pattern: u64) -> sst_base::Result<u64> {
+    let wanted = wanted(alloc, 0, 12)?;
+    let mut scan = opened(alloc, len, blocks)?.scan();
+    wrong_steps(alloc, &mut scan, &wanted, pattern)
+}
+
+// How many steps of a scan of the keys behind the second one, up to the fifth, are wrong.
+fn wrong_in_range(alloc: Global, len: usize, blocks: usize, pattern: u64) -> sst_base::Result<u64> {
+    let wanted = wanted(alloc, 4, 9)?;
+    let table = opened(alloc, len, blocks)?;
+    let mut scan = table.scan_range(Bound::Excluded(b"k\x03"), Bound::Included(b"k\x09"));
+    wrong_steps(alloc, &mut scan, &wanted, pattern)
+}
+
+// Lengths of blocks, blocks of a part, and patterns.
+const SCANS: [(usize, usize, u64); 6] = [
+    (1, 1, 0b0110_0101),
+    (4, 1, 255),
+    (4, 1, 0),
+    (4, 3, 0b0110_0101),
+    (9, 0, 0b0110_0101),
+    (9, 1, 0b0011_0101),
+];
+
+#[test]
+fn parts_are_scanned_from_both_ends(rt: HostRuntime) {
+    for (len, blocks, pattern) in &SCANS {
+        assert!(rt; wrong_in_all(rt.alloc(), *len, *blocks, *pattern) == Ok(0));
+        assert!(rt; wrong_in_range(rt.alloc(), *len, *blocks, *pattern) == Ok(0));
+    }
+}
+
+// Takes entries of a scan until it gives none or an error, and returns how many it gave, and that
+// error.
+fn take_all<S: FrameSource>(
+    alloc: Global,
+    scan: &mut PartedScan<'_, ByteSum, S>,
+) -> (u64, Option<Error>) {
+    let mut given = 0u64;
+    for _ in 0..60u8 {
+        match scan.next_entry(alloc) {
+            Ok(Some(_)) => given = given.saturating_add(1),
+            Ok(None) => return (given, None),
+            Err(error) => return (given, Some(error)),
+        }
+    }
+    (given, None)
+}
+
+// A scan of six parts over a source that fails at a call.
 fn failing_scan(
     alloc: Global,
     fails_at: usize,
-) -> sst_base::Result<(u64, Option<Error>, Option<Error>)> {
+) -> sst_base::Result<PartedScan<'static, ByteSum, FailingSource>> {
     let sizes = PartSizes {
         blocks: 1,
         bytes: 0,
@@ -195,32 +246,27 @@ fn failing_scan(
     let (top, bytes) = written_with_top(alloc, 9, sizes, 0)?;
     let source = FailingSource::new(Slice::from_vec(bytes)?, fails_at);
     let table = PartedTable::<ByteSum, FailingSource>::open(alloc, source, top)?;
-    let mut scan = table.scan();
-    let mut given = 0u64;
-    let mut first = None;
-    for _ in 0..60u8 {
-        match scan.next_entry(alloc) {
-            Ok(Some(_)) => given = given.saturating_add(1),
-            Ok(None) => break,
-            Err(error) => {
-                first = Some(error);
-                break;
-            }
-        }
-    }
+    Ok(table.scan())
+}
+
+// How many entries it gives, its error, and that of a step from the back after it.
+fn failed_scan(
+    alloc: Global,
+    fails_at: usize,
+) -> sst_base::Result<(u64, Option<Error>, Option<Error>)> {
+    let mut scan = failing_scan(alloc, fails_at)?;
+    let (given, first) = take_all(alloc, &mut scan);
     let last = scan.next_entry_back(alloc).err();
     Ok((given, first, last))
 }
 
 #[test]
-fn a_source_that_fails_ends_a_scan_of_parts(rt: HostRuntime) -> Tested {
-    let alloc = rt.alloc();
-    assert_eq!(rt; failing_scan(alloc, 0), Err(Error::Io));
-    for part in 0u64..6 {
-        let io = Some(Error::Io);
-        let seen = failing_scan(alloc, part as usize + 1)?;
-        assert_eq!(rt; seen, (9 * part, io, io));
+fn a_source_that_fails_ends_a_scan_of_parts(rt: HostRuntime) {
+    let io = Some(Error::Io);
+    assert!(rt; failed_scan(rt.alloc(), 0) == Err(Error::Io));
+    for part in 0..6usize {
+        let given = 9 * part as u64;
+        assert!(rt; failed_scan(rt.alloc(), part + 1) == Ok((given, io, io)));
     }
-    assert_eq!(rt; failing_scan(alloc, 7)?, (54, None, None));
-    Ok(())
+    assert!(rt; failed_scan(rt.alloc(), 7) == Ok((54, None, None)));
 }
