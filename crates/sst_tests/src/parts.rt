@@ -1,7 +1,6 @@
 // Parted tables, written and read.
 use crate::Tested;
-use crate::runs::faults::FailingSource;
-use sst_base::{BlockHandle, ByteSum, Error, HashRatio, InternalValue, Slice, Steps, ValueType};
+use sst_base::{BlockHandle, ByteSum, HashRatio, InternalValue, Slice, Steps, ValueType};
 use sst_parts::{PartSizes, PartWriter, PartedScan, PartedTable};
 use sstable_blocks::run::FrameSource;
 use sstable_blocks::{MemorySource, RunConfig};
@@ -215,58 +214,4 @@ fn parts_are_scanned_from_both_ends(rt: HostRuntime) {
         assert!(rt; wrong_in_all(rt.alloc(), *len, *blocks, *pattern) == Ok(0));
         assert!(rt; wrong_in_range(rt.alloc(), *len, *blocks, *pattern) == Ok(0));
     }
-}
-
-// Takes entries of a scan until it gives none or an error, and returns how many it gave, and that
-// error.
-fn take_all<S: FrameSource>(
-    alloc: Global,
-    scan: &mut PartedScan<'_, ByteSum, S>,
-) -> (u64, Option<Error>) {
-    let mut given = 0u64;
-    for _ in 0..60u8 {
-        match scan.next_entry(alloc) {
-            Ok(Some(_)) => given = given.saturating_add(1),
-            Ok(None) => return (given, None),
-            Err(error) => return (given, Some(error)),
-        }
-    }
-    (given, None)
-}
-
-// A scan of six parts over a source that fails at a call.
-fn failing_scan(
-    alloc: Global,
-    fails_at: usize,
-) -> sst_base::Result<PartedScan<'static, ByteSum, FailingSource>> {
-    let sizes = PartSizes {
-        blocks: 1,
-        bytes: 0,
-    };
-    let (top, bytes) = written_with_top(alloc, 9, sizes, 0)?;
-    let source = FailingSource::new(Slice::from_vec(bytes)?, fails_at);
-    let table = PartedTable::<ByteSum, FailingSource>::open(alloc, source, top)?;
-    Ok(table.scan())
-}
-
-// How many entries it gives, its error, and that of a step from the back after it.
-fn failed_scan(
-    alloc: Global,
-    fails_at: usize,
-) -> sst_base::Result<(u64, Option<Error>, Option<Error>)> {
-    let mut scan = failing_scan(alloc, fails_at)?;
-    let (given, first) = take_all(alloc, &mut scan);
-    let last = scan.next_entry_back(alloc).err();
-    Ok((given, first, last))
-}
-
-#[test]
-fn a_source_that_fails_ends_a_scan_of_parts(rt: HostRuntime) {
-    let io = Some(Error::Io);
-    assert!(rt; failed_scan(rt.alloc(), 0) == Err(Error::Io));
-    for part in 0..6usize {
-        let given = 9 * part as u64;
-        assert!(rt; failed_scan(rt.alloc(), part + 1) == Ok((given, io, io)));
-    }
-    assert!(rt; failed_scan(rt.alloc(), 7) == Ok((54, None, None)));
 }
