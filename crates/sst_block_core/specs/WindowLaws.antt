@@ -18,7 +18,7 @@ slice_get-drop [] (suc lo) n = refl
 slice_get-drop (x ∷ xs) (suc lo) n = slice_get-drop xs lo n ∙ ap (slice_get (x ∷ xs)) (let e : suc (lo + n) ≡ suc lo + n = omega arith in e)
 
 -- one item more of a list
-take_one_more : {X : Type 0} (xs : List X) (n : ℕ) (x : X) → slice_get xs n ≡ Some x → take (suc n) xs ≡ take n xs ++ x ∷ []
+pub take_one_more : {X : Type 0} (xs : List X) (n : ℕ) (x : X) → slice_get xs n ≡ Some x → take (suc n) xs ≡ take n xs ++ x ∷ []
 take_one_more xs n x here =
     ap (λ k. take k xs) (let e : suc n ≡ n + 1 = omega arith in e)
     ∙ take_more xs n x (slice_get_within xs n x here)

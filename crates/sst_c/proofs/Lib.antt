@@ -1,4 +1,1 @@
-pub mod Givens
-pub mod Places
-pub mod Listings
-pub mod BlockLists
+mod Lists

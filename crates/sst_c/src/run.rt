@@ -131,7 +131,7 @@ pub extern "C" fn sst_run_check(
 }
 
 /// The payload of a frame.
-#[tactic(auto, using(crate::proofs::Places::frame_payload))]
+#[tactic(auto, using(crate::proofs::Lists::Places::frame_payload))]
 pub(crate) fn payload_of<'a>(bytes: &'a [u8], handle: &BlockHandle) -> &'a [u8]
     requires { IsFrameRange bytes.now handle.now }
     ensures { result.now ≡ payload_in bytes.now handle.now }

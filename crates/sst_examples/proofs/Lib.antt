@@ -1,5 +1,2 @@
-pub mod Newer
-pub mod Levels
-pub mod Listed
-pub mod Places
-pub mod Written
+mod Store
+mod Stored

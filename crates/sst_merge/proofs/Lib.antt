@@ -1,13 +1,2 @@
-pub mod Tournaments
-pub mod FrontNumbers
-pub mod Peeks
-pub mod CutLaws
-pub mod CutSteps
-pub mod MovableLaws
-pub mod MovedLaws
-pub mod SortedCounts
-pub mod BlockPlaces
-pub mod BlockCounts
-pub mod BlockEnds
-pub mod TableEnds
-pub mod SoundTables
+mod Merging
+mod Moving

@@ -16,8 +16,9 @@ use Rattle.sst_merge.specs.Compact.{is_seen, is_parted, is_below_all, IsKeptRead
 use Rattle.sst_block_core.specs.Tombstones.{is_tombstone}
 use Rattle.sst_merge.specs.Snapshot.{has_last_key}
 use Rattle.sst_merge.specs.SnapshotReads.{both_false, key, number, has, is_match, has_key, NoneHas, order, after_by, none_behind, skip}
-use Rattle.sst_merge.specs.ListLaws.{first, first_hit, first_miss, order_tail, and_not_parts}
+use Rattle.sst_merge.specs.ListLaws.{first, first_hit, first_miss, and_not_parts}
 use Rattle.sst_base.specs.TestLaws.{and_parts, eq_is}
+use Rattle.sstable_blocks.specs.EndLaws.{tail_in_order}
 
 -- where no snapshot parts two numbers, a kept read that sees the one sees the other
 at_one : (ss : List ℕ) (q p r : ℕ) → list_any (λ s. nat_eq s r) ss ≡ true → is_parted ss q p ≡ false → nat_lt q r ≡ true → r ≤ p → true ≡ false
@@ -160,7 +161,7 @@ module _ {X : Type 0} (entry : X → Entry) (ss : List ℕ) (bottom : List ℕ �
     c3 : IsKeptRead ss r → (last : Option (List ℕ × ℕ)) (xs : List X) → IsUnseen last → IsInOrder (order entry k r) xs → IsSameOrGone (first m (go last xs)) (first m xs)
     c3 read last [] o up = inl refl
     c3 read last (x ∷ xs) o up =
-        let tail = order_tail (order entry k r) x xs up in
+        let tail = tail_in_order (order entry k r) x xs up in
         elim (cases_Bool (is_seen ss (entry x).key.seqno)) [
           | inr above ↦ elim (cases_Bool (m x)) [
             | inl hit ↦ inl (ap (first m) (kept last x xs above) ∙ first_hit m x (go last xs) hit ∙ sym (first_hit m x xs hit))
@@ -215,9 +216,9 @@ module _ {X : Type 0} (entry : X → Entry) (ss : List ℕ) (bottom : List ℕ �
   in_order last (x ∷ xs) up = elim (cases_Bool (is_seen ss (entry x).key.seqno)) [
     | inr above ↦ rw (kept last x xs above) (behind_one x last xs up)
     | inl below ↦ elim (cases_Bool (is_hidden entry ss last x)) [
-      | inl again ↦ rw (repeated last x xs below again) (in_order last xs (order_tail (order entry [] 0) x xs up))
+      | inl again ↦ rw (repeated last x xs below again) (in_order last xs (tail_in_order (order entry [] 0) x xs up))
       | inr first_of ↦ rw (newest last x xs below first_of) (elim (cases_Bool (is_dropped entry ss bottom x)) [
-        | inl gone ↦ rw gone (in_order (at x) xs (order_tail (order entry [] 0) x xs up))
+        | inl gone ↦ rw gone (in_order (at x) xs (tail_in_order (order entry [] 0) x xs up))
         | inr here ↦ rw here (behind_one x (at x) xs up)
       ])
     ]

@@ -1,8 +1,6 @@
 -- Laws of lists and tests: what follows in an ordered one, the first item that passes a test, and an item that is left out or kept.
 use Rattle.std.proofs.Common.{◌≡◌, ℕ, suc, nat_lt, inl, inr, sym, arith, Bool, true, false, not, cond, ◌&&◌, List, [], ◌∷◌, ◌++◌, Option, Some, ap, ◌∙◌, filter, slice_get}
 use Rattle.std.proofs.lemmas.Bool.{cases_lt, lt-ltb, le-ltb}
-use Rattle.std.specs.declared.cmp.Ordering.{Ordering}
-use Rattle.sst_base.specs.Order.{IsInOrder}
 use Rattle.sst_block_core.specs.ListLaws.{first_filter}
 use Rattle.sst_base.specs.TestLaws.{and_parts, not_true}
 
@@ -12,17 +10,6 @@ lt_suc a b = elim (cases_lt a b) [
   | inl less ↦ lt-ltb (suc a) (suc b) (omega (arith, less)) ∙ sym (lt-ltb a b less)
   | inr more ↦ le-ltb (suc a) (suc b) (omega (arith, more)) ∙ sym (le-ltb a b more)
 ]
-
-module _ {X : Type 0} (cmp : X → X → Ordering) where
-  -- what follows the first item of an ordered list is in order
-  pub order_tail : (x : X) (xs : List X) → IsInOrder cmp (x ∷ xs) → IsInOrder cmp xs
-  order_tail x [] h = tt
-  order_tail x (y ∷ ys) h = h.1
-
-  -- and what follows several
-  pub order_rest : (xs ys : List X) → IsInOrder cmp (xs ++ ys) → IsInOrder cmp ys
-  order_rest [] ys h = h
-  order_rest (x ∷ xs) ys h = order_rest xs ys (order_tail x (xs ++ ys) h)
 
 module _ {X : Type 0} (test : X → Bool) where
   -- the first item that passes

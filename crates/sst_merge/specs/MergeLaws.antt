@@ -1,7 +1,8 @@
 -- Laws of merges.
-use Rattle.std.proofs.Common.{◌≡◌, ◌≢◌, true, false, List, [], ◌∷◌, refl, sym, ◌∙◌, inl, inr}
+use Rattle.std.proofs.Common.{◌≡◌, ◌≢◌, true, false, List, [], ◌∷◌, refl, sym, subst, ◌∙◌, inl, inr}
 use Rattle.std.proofs.lemmas.Bool.{cases_Bool}
 use Rattle.std.specs.Cmp.{IsTotalOrder}
+use Rattle.std.specs.List.{AllByRecursion}
 use Rattle.std.specs.Ordering.{is_lt, ordering_reverse}
 use Rattle.std.specs.declared.cmp.Ordering.{Ordering}
 use Rattle.std.specs.declared.cmp.Ordering.TheVariants.{Less, Equal, Greater}
@@ -22,6 +23,15 @@ module _ {X : Type 0} (cmp : X → X → Ordering) where
   -- it is not
   pub merge-first : (x y : X) (xs ys : List X) → is_lt (cmp y x) ≡ false → merge cmp (x ∷ xs) (y ∷ ys) ≡ x ∷ merge cmp xs (y ∷ ys)
   merge-first x y xs ys h = rw h refl
+
+  -- what holds of all items of lists holds of all of their merge
+  pub all_merge : (P : X → Type 0) (xs ys : List X) → AllByRecursion P xs → AllByRecursion P ys → AllByRecursion P (merge cmp xs ys)
+  all_merge P [] ys a b = b
+  all_merge P (x ∷ xs) [] a b = a
+  all_merge P (x ∷ xs) (y ∷ ys) a b = elim (cases_Bool (is_lt (cmp y x))) [
+    | inl second ↦ subst (AllByRecursion P) (sym (merge-second cmp x y xs ys second)) (b.0, all_merge P (x ∷ xs) ys a b.1)
+    | inr first ↦ subst (AllByRecursion P) (sym (merge-first cmp x y xs ys first)) (a.0, all_merge P xs (y ∷ ys) a.1 b)
+  ]
 
   -- P holds of the first item, and no item sorts before its predecessor
   abbrev pub Rises : (X → Type 0) → List X → Type 0

@@ -9,7 +9,8 @@ use Rattle.std.specs.declared.cmp.Ordering.TheVariants.{Less, Equal, Greater}
 use Rattle.sst_base.specs.Order.{IsInOrder}
 use Rattle.sst_merge.specs.Merge.{merge, merge_after, lesser}
 use Rattle.sst_base.specs.TestLaws.{lt_is, not_lt, is_not_lt, some_is}
-use Rattle.sst_merge.specs.ListLaws.{order_tail, first, first_hit, first_miss}
+use Rattle.sst_merge.specs.ListLaws.{first, first_hit, first_miss}
+use Rattle.sstable_blocks.specs.EndLaws.{tail_in_order}
 
 module _ {X : Type 0} (cmp : X → X → Ordering) (order : IsTotalOrder cmp) where
   ge_by : (z y x : X) (o : Ordering) → cmp y x ≡ o → cmp z y ≢ Less → o ≢ Less → cmp z x ≢ Less
@@ -63,7 +64,7 @@ module _ {X : Type 0} (cmp : X → X → Ordering) (order : IsTotalOrder cmp) wh
                   | inl less ↦ less
                   | inr more ↦ absurd (ge_trans y z x (not_lt (cmp y z) more) (above_or_at x xs z up e) (lt_is (cmp y x) second))
                 ]))
-            | inr miss ↦ first_miss test y rest miss ∙ at x xs after up go ys (order_tail cmp y ys h) ∙ ap (lesser cmp (first test (x ∷ xs))) (sym (first_miss test y ys miss))
+            | inr miss ↦ first_miss test y rest miss ∙ at x xs after up go ys (tail_in_order cmp y ys h) ∙ ap (lesser cmp (first test (x ∷ xs))) (sym (first_miss test y ys miss))
           ])
       | inr front ↦ (
           let rest = merge_after cmp x xs after ys in
@@ -78,4 +79,4 @@ module _ {X : Type 0} (cmp : X → X → Ordering) (order : IsTotalOrder cmp) wh
     -- the first match of a merge of ordered lists: the lesser of the first matches of the two, and of equal ones that of the first
     pub merge-first_match : (xs ys : List X) → IsInOrder cmp xs → IsInOrder cmp ys → first test (merge cmp xs ys) ≡ lesser cmp (first test xs) (first test ys)
     merge-first_match [] ys up h = refl
-    merge-first_match (x ∷ xs) ys up h = at x xs (merge cmp xs) up (λ zs g. merge-first_match xs zs (order_tail cmp x xs up) g) ys h
+    merge-first_match (x ∷ xs) ys up h = at x xs (merge cmp xs) up (λ zs g. merge-first_match xs zs (tail_in_order cmp x xs up) g) ys h

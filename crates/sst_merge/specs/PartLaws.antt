@@ -13,7 +13,7 @@ use Rattle.sst_merge.specs.Merge.{merge, merged, entry_cmp}
 use Rattle.sst_merge.specs.MergeLaws.{merge-first}
 use Rattle.sst_merge.specs.MergeReads.{ge_trans}
 use Rattle.sst_base.specs.TestLaws.{is_not_lt}
-use Rattle.sst_merge.specs.ListLaws.{order_tail, order_rest}
+use Rattle.sstable_blocks.specs.EndLaws.{tail_in_order, back_in_order}
 
 module _ {X : Type 0} (cmp : X → X → Ordering) (order : IsTotalOrder cmp) where
   -- no later item sorts before the first
@@ -27,11 +27,11 @@ module _ {X : Type 0} (cmp : X → X → Ordering) (order : IsTotalOrder cmp) wh
   merge_parts (x ∷ xs) [] h = sym (append-nil (x ∷ xs))
   merge_parts (x ∷ xs) (y ∷ ys) h =
       merge-first cmp x y xs ys (is_not_lt (cmp y x) (not_before x xs y ys h))
-      ∙ ap (λ zs. x ∷ zs) (merge_parts xs (y ∷ ys) (order_tail cmp x (xs ++ y ∷ ys) h))
+      ∙ ap (λ zs. x ∷ zs) (merge_parts xs (y ∷ ys) (tail_in_order cmp x (xs ++ y ∷ ys) h))
 
   merged_parts : (xss : List (List X)) → IsInOrder cmp (joined xss) → merged cmp xss ≡ joined xss
   merged_parts [] h = refl
-  merged_parts (xs ∷ xss) h = ap (merge cmp xs) (merged_parts xss (order_rest cmp xs (joined xss) h)) ∙ merge_parts xs (joined xss) h
+  merged_parts (xs ∷ xss) h = ap (merge cmp xs) (merged_parts xss (back_in_order cmp xs (joined xss) h)) ∙ merge_parts xs (joined xss) h
 
 -- the merge of the parts of an ordered list is the list
 pub parts_whole : (lists : List (List Entry)) → IsOrdered entries (joined lists) → merged entry_cmp lists ≡ joined lists

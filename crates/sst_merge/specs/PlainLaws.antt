@@ -14,7 +14,8 @@ use Rattle.sst_block_core.specs.VersionLaws.{keys_equal}
 use Rattle.sst_block_core.specs.Tombstones.{is_tombstone}
 use Rattle.sst_merge.specs.Snapshot.{visible_from, snapshot, unless_deleted, has_last_key, has_version, is_shown, shown, kept_after}
 use Rattle.sst_merge.specs.SnapshotReads.{order, skip}
-use Rattle.sst_merge.specs.ListLaws.{left_out, order_tail}
+use Rattle.sst_merge.specs.ListLaws.{left_out}
+use Rattle.sstable_blocks.specs.EndLaws.{tail_in_order}
 
 or_same : (b : Bool) → (b || b) ≡ b
 or_same true = refl
@@ -107,7 +108,7 @@ module _ {X : Type 0} (entry : X → Entry) (s : ℕ) where
   s_same : (last : Option (List ℕ)) (before xs : List X) → IsInOrder cmp xs → Behind last xs → Agree last before xs → visible_from entry s last xs ≡ kept_after (is_shown entry s) before xs
   s_same last before [] up h all = refl
   s_same last before (x ∷ xs) up h all =
-      let tail = order_tail (order entry [] 0) x xs up in
+      let tail = tail_in_order (order entry [] 0) x xs up in
       let to = kept_after (is_shown entry s) (x ∷ before) xs in
       let go = visible_from entry s last xs in
       let gone = is_tombstone (entry x).key.value_type in

@@ -18,7 +18,7 @@ use Rattle.sst_block_core.specs.Window.{first_match, is_version}
 use Rattle.sst_merge.specs.MergeReads.{ge_trans}
 use Rattle.sst_merge.specs.Ranges.{covers, ranged}
 use Rattle.sst_base.specs.TestLaws.{and_parts}
-use Rattle.sst_merge.specs.ListLaws.{order_tail}
+use Rattle.sstable_blocks.specs.EndLaws.{tail_in_order}
 
 module _ {X : Type 0} (test : X → Bool) where
   pub filter_hit : (x : X) (xs : List X) → test x ≡ true → filter test (x ∷ xs) ≡ x ∷ filter test xs
@@ -75,7 +75,7 @@ module _ {X : Type 0} (cmp : X → X → Ordering) (order : IsTotalOrder cmp) (t
   filter_ordered [] up = tt
   filter_ordered (x ∷ xs) up = elim (cases_Bool (test x)) [
     | inl hit ↦ rw (filter_hit test x xs hit) (behind x xs up)
-    | inr miss ↦ rw (filter_miss test x xs miss) (filter_ordered xs (order_tail cmp x xs up))
+    | inr miss ↦ rw (filter_miss test x xs miss) (filter_ordered xs (tail_in_order cmp x xs up))
   ]
 
 pub ranged_ordered : (first last : List ℕ) (items : List Entry) → IsOrdered entries items → IsOrdered entries (ranged first last items)
@@ -85,19 +85,20 @@ ranged_ordered first last items up = filter_ordered _ (versions_cmp_total entrie
 pub ranged_all : (first last : List ℕ) (items : List Entry) → AllByRecursion (λ (e : Entry). covers first last e.key.user_key ≡ true) items → ranged first last items ≡ items
 ranged_all first last items all = filter_all (λ (e : Entry). covers first last e.key.user_key) items all
 
-module _ (first last needle : List ℕ) (s : ℕ) where
-  key_is : (e : Entry) → is_version entries needle s e ≡ true → e.key.user_key ≡ needle
-  key_is e h = keys_equal e.key.user_key needle (and_parts (nat_lt e.key.seqno s) (is_eq (slice_cmp nat_cmp e.key.user_key needle)) h).1
+-- a version of a key has the key
+pub version_key : (needle : List ℕ) (s : ℕ) (e : Entry) → is_version entries needle s e ≡ true → e.key.user_key ≡ needle
+version_key needle s e h = keys_equal e.key.user_key needle (and_parts (nat_lt e.key.seqno s) (is_eq (slice_cmp nat_cmp e.key.user_key needle)) h).1
 
+module _ (first last needle : List ℕ) (s : ℕ) where
   -- a read of a key within the range
   pub ranged_match : (items : List Entry) → covers first last needle ≡ true → first_match entries needle s (ranged first last items) ≡ first_match entries needle s items
   unfolding first_match
-  ranged_match items h = ap (λ xs. option_map plain (slice_get xs 0)) (filter_both (is_version entries needle s) (λ (e : Entry). covers first last e.key.user_key) (λ e v. ap (covers first last) (key_is e v) ∙ h) items)
+  ranged_match items h = ap (λ xs. option_map plain (slice_get xs 0)) (filter_both (is_version entries needle s) (λ (e : Entry). covers first last e.key.user_key) (λ e v. ap (covers first last) (version_key needle s e v) ∙ h) items)
 
   -- and of one outside
   pub ranged_miss : (items : List Entry) → covers first last needle ≡ false → first_match entries needle s (ranged first last items) ≡ None
   unfolding first_match
-  ranged_miss items h = ap (λ xs. option_map plain (slice_get xs 0)) (filter_none (is_version entries needle s) (λ (e : Entry). covers first last e.key.user_key) (λ e v. ap (covers first last) (key_is e v) ∙ h) items)
+  ranged_miss items h = ap (λ xs. option_map plain (slice_get xs 0)) (filter_none (is_version entries needle s) (λ (e : Entry). covers first last e.key.user_key) (λ e v. ap (covers first last) (version_key needle s e v) ∙ h) items)
 
 pub ranged_if_ordered : (first last : List ℕ) (o : Option (List Entry)) → IfSome o (IsOrdered entries) → IfSome (option_map (ranged first last) o) (IsOrdered entries)
 ranged_if_ordered first last None h = tt

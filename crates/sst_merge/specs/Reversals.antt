@@ -12,7 +12,7 @@ use Rattle.sst_merge.specs.MergeLaws.{merge-nil, merge-first, merge-second, merg
 use Rattle.sst_base.specs.Order.{IsInOrder}
 use Rattle.sst_base.specs.TestLaws.{lt_is, not_lt, is_not_lt}
 use Rattle.sst_block_core.specs.ListLaws.{push_reverse, all_reverse}
-use Rattle.sst_merge.specs.ListLaws.{order_tail}
+use Rattle.sstable_blocks.specs.EndLaws.{tail_in_order}
 
 module _ {X : Type 0} (cmp : X → X → Ordering) where
   -- an item after all of the second list is the last of the merge
@@ -99,12 +99,12 @@ module _ {X : Type 0} (cmp : X → X → Ordering) (order : IsTotalOrder cmp) wh
   reverse_merge (x ∷ xs) (y ∷ ys) a b = elim (cases_Bool (is_lt (cmp y x))) [
     | inl second ↦
         ap reverse (merge-second cmp x y xs ys second) ∙ push_reverse y (merge cmp (x ∷ xs) ys)
-        ∙ ap (λ zs. zs ++ y ∷ []) (reverse_merge (x ∷ xs) ys a (order_tail cmp y ys b))
+        ∙ ap (λ zs. zs ++ y ∷ []) (reverse_merge (x ∷ xs) ys a (tail_in_order cmp y ys b))
         ∙ sym (last_first (flip_args cmp) (reverse ys) y (reverse (x ∷ xs)) (all_reverse (λ z. is_lt (cmp y z) ≡ true) (x ∷ xs) (before_all cmp order y x xs second a)))
         ∙ ap (λ zs. merge (flip_args cmp) zs (reverse (x ∷ xs))) (sym (push_reverse y ys))
     | inr first ↦
         ap reverse (merge-first cmp x y xs ys first) ∙ push_reverse x (merge cmp xs (y ∷ ys))
-        ∙ ap (λ zs. zs ++ x ∷ []) (reverse_merge xs (y ∷ ys) (order_tail cmp x xs a) b)
+        ∙ ap (λ zs. zs ++ x ∷ []) (reverse_merge xs (y ∷ ys) (tail_in_order cmp x xs a) b)
         ∙ sym (last_second (flip_args cmp) (reverse (y ∷ ys)) (reverse xs) x (all_reverse (λ z. is_lt (cmp z x) ≡ false) (y ∷ ys) (none_before cmp order x y ys (not_lt (cmp y x) first) b)))
         ∙ ap (merge (flip_args cmp) (reverse (y ∷ ys))) (sym (push_reverse x xs))
   ]

@@ -17,6 +17,7 @@ use Rattle.sst_merge.specs.Sources.{IsTaken}
 use Rattle.sst_merge.specs.TableLaws.{last_of}
 use Rattle.sst_merge.specs.Tables.{IsApart, IsFilled, IsShortest, Reaches, capped, block_len, blocks_len}
 use Rattle.sstable_blocks.specs.RunLaws.{joined_push}
+use Rattle.sstable_blocks.specs.EndLaws.{all_push}
 
 pub reaches_size : (a n size : ℕ) → n ≡ capped a → size ≤ n → size ≤ a
 reaches_size a n size e h = omega arith
@@ -100,10 +101,6 @@ reaches_later size len s t items taken h = elim h [
 filled_later : (r size : ℕ) (s t : Option (List Entry)) (items : List Entry) → IsTaken s items t → (blocks : List (List Entry)) → AllByRecursion (IsFilled r size s) blocks → AllByRecursion (IsFilled r size t) blocks
 filled_later r size s t items taken [] all = tt
 filled_later r size s t items taken (b ∷ blocks) all = (record { reaches = reaches_later size (block_len r b) s t items taken all.0.reaches; below = all.0.below }, filled_later r size s t items taken blocks all.1)
-
-all_push : {A : Type 0} (P : A → Type 0) (xs : List A) (x : A) → AllByRecursion P xs → P x → AllByRecursion P (xs ++ x ∷ [])
-all_push P [] x all h = (h, tt)
-all_push P (y ∷ ys) x all h = (all.0, all_push P ys x all.1 h)
 
 -- one block more
 pub filled_more : (r size : ℕ) (s t : Option (List Entry)) (blocks : List (List Entry)) (b : List Entry) → AllByRecursion (IsFilled r size s) blocks → IsTaken s b t → IsFilled r size t b → AllByRecursion (IsFilled r size t) (blocks ++ b ∷ [])

@@ -15,7 +15,8 @@ use Rattle.sst_block_core.specs.Tombstones.{is_tombstone}
 use Rattle.sst_merge.specs.Snapshot.{visible_from, snapshot, is_newest, has_last_key}
 use Rattle.sst_merge.specs.SnapshotLaws.{visible-passed, visible-newest}
 use Rattle.sst_merge.specs.MergeReads.{ge_trans}
-use Rattle.sst_merge.specs.ListLaws.{order_tail, first, first_hit, first_miss}
+use Rattle.sst_merge.specs.ListLaws.{first, first_hit, first_miss}
+use Rattle.sstable_blocks.specs.EndLaws.{tail_in_order}
 
 pub both_false : (a b : Bool) → b ≡ false → (a && b) ≡ false
 both_false true b h = h
@@ -142,7 +143,7 @@ module _ {X : Type 0} (entry : X → Entry) (k : List ℕ) (seqno : ℕ) where
       | inr above ↦ (
           let passed : is_newest entry seqno last x ≡ false = first_false (nat_lt (number x) seqno) (not (has_last_key entry last x)) above in
           let miss : is_match x ≡ false = first_false (nat_lt (number x) seqno) (has x) above in
-          ap (first has) (visible-passed entry seqno last x xs passed) ∙ v3 last xs o (order_tail order x xs up) ∙ ap unless_hidden (sym (first_miss is_match x xs miss)))
+          ap (first has) (visible-passed entry seqno last x xs passed) ∙ v3 last xs o (tail_in_order order x xs up) ∙ ap unless_hidden (sym (first_miss is_match x xs miss)))
     ]
     | inr other ↦ (
         let miss : is_match x ≡ false = both_false (nat_lt (number x) seqno) (has x) other in
@@ -153,8 +154,8 @@ module _ {X : Type 0} (entry : X → Entry) (k : List ℕ) (seqno : ℕ) where
                 | inl gone ↦ ap (λ b. first has (cond b rest (x ∷ rest))) gone
                 | inr stays ↦ ap (λ b. first has (cond b rest (x ∷ rest))) stays ∙ first_miss has x rest other
               ]
-              ∙ v3 (Some (key x)) xs other (order_tail order x xs up) ∙ ap unless_hidden (sym (first_miss is_match x xs miss))
-          | inr passed ↦ ap (first has) (visible-passed entry seqno last x xs passed) ∙ v3 last xs o (order_tail order x xs up) ∙ ap unless_hidden (sym (first_miss is_match x xs miss))
+              ∙ v3 (Some (key x)) xs other (tail_in_order order x xs up) ∙ ap unless_hidden (sym (first_miss is_match x xs miss))
+          | inr passed ↦ ap (first has) (visible-passed entry seqno last x xs passed) ∙ v3 last xs o (tail_in_order order x xs up) ∙ ap unless_hidden (sym (first_miss is_match x xs miss))
         ])
   ]
 

@@ -17,7 +17,8 @@ use Rattle.sst_merge.specs.Compact.{is_seen, is_parted, is_hidden, is_dropped, c
 use Rattle.sst_merge.specs.PlainLaws.{Behind, behind_first, behind_rest, key_after, last_is, other, or_false}
 use Rattle.sst_merge.specs.Snapshot.{has_last_key, kept_after}
 use Rattle.sst_merge.specs.SnapshotReads.{order, skip}
-use Rattle.sst_merge.specs.ListLaws.{left_out, order_tail, and_not_parts}
+use Rattle.sst_merge.specs.ListLaws.{left_out, and_not_parts}
+use Rattle.sstable_blocks.specs.EndLaws.{tail_in_order}
 
 -- a snapshot that sees the one number and none that sees the other
 unseen_parts : (ss : List ℕ) (q p : ℕ) → is_seen ss q ≡ true → is_seen ss p ≡ false → is_parted ss q p ≡ true
@@ -138,7 +139,7 @@ module _ {X : Type 0} (entry : X → Entry) (ss : List ℕ) (bottom : List ℕ �
   c_same : (last : Option (List ℕ × ℕ)) (before xs : List X) → IsInOrder cmp xs → Behind entry 0 (last_key last) xs → Agree last before xs → go last xs ≡ to before xs
   c_same last before [] up h all = refl
   c_same last before (x ∷ xs) up h all =
-      let tail = order_tail (order entry [] 0) x xs up in
+      let tail = tail_in_order (order entry [] 0) x xs up in
       let rest = λ (b t v : Bool). cond (not b || (not v && not t)) (x ∷ to (x ∷ before) xs) (to (x ∷ before) xs) in
       let gone = is_dropped entry ss bottom x in
       elim (cases_Bool (is_seen ss (num x))) [

@@ -1,6 +1,7 @@
 -- Laws of tables as readers.
 use Rattle.std.proofs.Common.{◌≡◌, ℕ, zero, suc, ◌<◌, ◌^◌, arith, map, Bool, true, false, not, cond, List, [], ◌∷◌, Option, Some, None, Result, Ok, Err, refl, sym, ap, subst, ◌∙◌}
 use Rattle.std.proofs.lemmas.Bool.{ltb-true}
+use Rattle.std.specs.Cmp.Derive.{both_true}
 use Rattle.std.specs.Option.{option_map, IfSome}
 use Rattle.std.specs.Ordering.{is_lt}
 use Rattle.std.specs.List.{AllByRecursion}
@@ -26,7 +27,13 @@ use Rattle.sst_merge.specs.Merge.{entry_cmp}
 use Rattle.sst_merge.specs.RangeLaws.{filter_all}
 use Rattle.sst_merge.specs.Stored.{all_keys, are_bytes, check_of, checked_list, filter_fits, known_reads, table_list}
 use Rattle.sst_merge.specs.StoredLaws.{known_all}
-use Rattle.sst_base.specs.TestLaws.{and_parts, not_true, not_lt}
+use Rattle.sst_base.specs.TestLaws.{and_parts, is_not_lt, not_true, not_lt}
+
+-- entries are in order exactly where they pass the test of their order
+pub order_passes : (xs : List Entry) → IsOrdered entries xs → is_in_order entry_cmp xs ≡ true
+order_passes [] up = refl
+order_passes (x ∷ []) up = refl
+order_passes (x ∷ y ∷ xs) up = both_true (ap not (is_not_lt (entry_cmp y x) up.0)) (order_passes (y ∷ xs) up.1)
 
 pub passes_ordered : (xs : List Entry) → is_in_order entry_cmp xs ≡ true → IsOrdered entries xs
 passes_ordered [] h = tt

@@ -20,7 +20,7 @@ use Rattle.sst_merge.specs.SizeLaws.{filled_more}
 use Rattle.sst_merge.specs.Sources.{left_as, IsTaken, Left, MayGive, MeetsNoMore}
 use Rattle.sst_merge.specs.TableLaws.{taken_block}
 use Rattle.sst_merge.specs.Tables.{IsFilled, IsOutOfOrder, MayNotAdd, MayNotWrite, entries_in}
-use Rattle.sst_merge.specs.ListLaws.{order_rest}
+use Rattle.sstable_blocks.specs.EndLaws.{back_in_order, front_in_order}
 
 -- what was taken, as entries
 pub entries_taken : {X : Type 0} (entry : X → Entry) (s t : Option (List X)) (xs : List X) → IsTaken s xs t → IsTaken (entries_in entry s) (map entry xs) (entries_in entry t)
@@ -33,27 +33,20 @@ gives_more may_fail old new e less (inl memory) = inl memory
 gives_more may_fail old new e less (inr (inl device)) = inr (inl device)
 gives_more may_fail old new e less (inr (inr met)) = inr (inr (less e met))
 
-module _ {X : Type 0} (cmp : X → X → Ordering) where
-  -- the parts of a list in order are in order
-  order_front : (xs ys : List X) → IsInOrder cmp (xs ++ ys) → IsInOrder cmp xs
-  order_front [] ys h = tt
-  order_front (x ∷ []) ys h = tt
-  order_front (x ∷ y ∷ xs) ys h = (h.0, order_front (y ∷ xs) ys h.1)
-
 -- what is left of a list that is not in order, or what was taken
 out_of_order_front : (given after : Option (List Entry)) (xs : List Entry) → IsTaken given xs after → (IsOrdered entries xs → ⊥) → IsOutOfOrder given
 out_of_order_front None after xs taken wrong = tt
 out_of_order_front (Some ys) None xs taken wrong = absurd (cc)
 out_of_order_front (Some ys) (Some rest) xs taken wrong =
     let is : ys ≡ xs ++ rest = cc in
-    λ ordered. wrong (order_front (item_cmp entries) xs rest (subst (IsOrdered entries) is ordered))
+    λ ordered. wrong (front_in_order (item_cmp entries) xs rest (subst (IsOrdered entries) is ordered))
 
 pub out_of_order_later : (given after : Option (List Entry)) (xs : List Entry) → IsTaken given xs after → IsOutOfOrder after → IsOutOfOrder given
 out_of_order_later None after xs taken wrong = tt
 out_of_order_later (Some ys) None xs taken wrong = absurd (cc)
 out_of_order_later (Some ys) (Some rest) xs taken wrong =
     let is : ys ≡ xs ++ rest = cc in
-    λ ordered. wrong (order_rest (item_cmp entries) xs rest (subst (IsOrdered entries) is ordered))
+    λ ordered. wrong (back_in_order (item_cmp entries) xs rest (subst (IsOrdered entries) is ordered))
 
 -- where an item is left, one is taken
 some_taken : {X : Type 0} (entry : X → Entry) (before after : Option (List X)) (block : List X) → IsTaken before block after → (1 ≤ length block) ⊎ IfSome after (λ xs. xs ≡ []) → IfSome before (λ xs. 1 ≤ length xs)

@@ -1,26 +1,5 @@
-pub mod CachedReads
-pub mod Caching
-pub mod Blocks
-pub mod CheckedReads
-pub mod Closings
-pub mod Counts
-pub mod EndScans
-pub mod FileOpenings
-pub mod Files
-pub mod Footers
-pub mod Joins
-pub mod Located
-pub mod Longer
-pub mod Needles
-pub mod Openings
-pub mod PartEnds
-pub mod PartReads
-pub mod PartedScans
-pub mod PartSteps
-pub mod Places
-pub mod RangeEnds
-pub mod Ranges
-pub mod Reaching
-pub mod Rising
-pub mod Sounds
-pub mod Windows
+mod Writing
+mod Reading
+mod Scanning
+mod Cached
+mod ManyReads

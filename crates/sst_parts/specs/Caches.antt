@@ -139,6 +139,12 @@ pub record StillAdded {S : Type 0} (bytes : S → Option (List ℕ)) (old new : 
   pub tables : new.tables ≡ old.tables
   pub added : IsAdded bytes new t
 
+-- a read of a table through the cache, which finds the block at an index or none, leaves this cache, of which the table still
+-- is one
+pub record LeavesCache {S Y : Type 0} (c : Hashes) (bytes : S → Option (List ℕ)) (old : CacheParts) (index : Option ℕ) (result : Result Y Error) (new : CacheParts) (t : CachedParts S) : Type 0 where
+  pub read : ReadsBy c old t.number index result new
+  pub still : StillAdded bytes old new t
+
 -- the most heads and entries that a read examines that asks for so many frames: those of a read of the table, and for a
 -- frame the handles of an interval
 abbrev pub cached_most : {S : Type 0} → List ℕ → TableParts S → ℕ → List ℕ → ℕ → ℕ × ℕ

@@ -187,6 +187,13 @@ abbrev pub IsEndOf : List (List Entry) → Option PartEnd → Type 0
 IsEndOf blocks None = blocks ≡ []
 IsEndOf blocks (Some e) = (1 ≤ length blocks) × IsLastOf (joined blocks) e.key e.seqno
 
+-- the blocks of the current part and its end are those of a run that takes blocks, and begins where the parts closed end
+pub record IsCurrent {W : Type 0} (closed : ClosedView) (run : Writing W) (blocks : List (List Entry)) (end : Option PartEnd) : Type 0 where
+  pub accepting : run.refusal ≡ None
+  pub joins : Joins closed run
+  pub blocks_are : blocks ≡ run.blocks
+  pub end_is : IsEndOf run.blocks end
+
 -- the parts closed, and the run that the next block is added to: the same, or where the current part is full, one part more
 -- and a run without blocks
 pub record IsNextPart {W : Type 0} (closed : ClosedView) (run : Writing W) (full : Bool) (closed' : ClosedView) (run' : Writing W) : Type 0 where
@@ -200,10 +207,7 @@ pub record IsNextPart {W : Type 0} (closed : ClosedView) (run : Writing W) (full
 -- what a writer of a parted table keeps of the current part
 pub record IsOpenPart {W : Type 0} (closed : ClosedView) (run : Writing W) (sizes : PartSizes) (blocks : List (List Entry)) (end : Option PartEnd) (left : ℕ) : Type 0 where
   pub writable : IsWritable closed.config
-  pub accepting : run.refusal ≡ None
-  pub blocks_are : blocks ≡ run.blocks
-  pub joins : Joins closed run
-  pub end_is : IsEndOf run.blocks end
+  pub current : IsCurrent closed run blocks end
   pub first : run.blocks ≡ [] → closed.parts ≡ []
   pub left_is : left ≡ sizes.bytes - data_len (joined run.blocks)
   pub ordered : IsOrdered entries (joined (joined closed.parts ++ run.blocks))

@@ -3,7 +3,7 @@ ghost use Rattle.std.specs.Prelude.{◌≡◌, ◌*◌, ◌+◌, ◌-◌, ◌<�
 ghost use Rattle.std.specs.Prelude.{◌++◌, ◌∷◌, [], IfErr, IsErr, IsOkUnless, IsSome, OnErr, length};
 ghost use Rattle.std.specs.Prelude.{slice_get};
 ghost use Rattle.sst_base.specs.Counted.{CountsBetween};
-ghost use Rattle.sst_parts.specs.Caches.{IsAdded, IsReadOf, KeepsRead, ReadsBy, ReadsPlace, StillAdded};
+ghost use Rattle.sst_parts.specs.Caches.{IsAdded, IsReadOf, KeepsRead, LeavesCache, ReadsBy, ReadsPlace};
 ghost use Rattle.sst_parts.specs.Caches.{cached_frames, cached_most, frames_for, kept_at};
 ghost use Rattle.sst_parts.specs.ManyReads.{IsOpened, located, place_of};
 ghost use Rattle.sstable_blocks.specs.RunReading.{hashes, read_checked};
@@ -232,10 +232,9 @@ impl<H: BlockHash, S: FrameSource> CachedTable<H, S> {
             needle.now seqno)) }
         ensures looked { LooksBy (kept_says H.hash64 self.old.table.filter needle.now)
             steps.old steps.new }
-        ensures cache { ReadsBy (hashes H.hash64 H.hash128) cache.old self.old.number (place_of
+        ensures cache { LeavesCache (hashes H.hash64 H.hash128) S.bytes cache.old (place_of
             (located H.hash64 self.old.table.filter self.old.table.index needle.now seqno))
-            result cache.new }
-        ensures added { StillAdded S.bytes cache.old cache.new self.new }
+            result cache.new self.new }
     {
         sound_is_read();
         get_by(

@@ -1,11 +1,11 @@
 //! The parts of a parted table that are closed while it is written.
 ghost use Rattle.std.specs.Prelude.{◌≡◌, ◌⊎◌, ◌+◌, ◌++◌, ◌∷◌, [], ◌≤◌, ◌<◌, ◌^◌, IfErr, IfOk, IsErrOf};
-ghost use Rattle.std.specs.Prelude.{IfSome, IsNone, IsOkUnless, None, length, map};
+ghost use Rattle.std.specs.Prelude.{IfSome, IsNone, IsOkUnless, None, Some, length, map};
 ghost use Rattle.sst_base.specs.declared.error.Error.TheVariants.{Io, TooLong};
 ghost use Rattle.sst_block_core.specs.Entries.{entries};
 ghost use Rattle.sst_block_core.specs.Kind.{IsOrdered};
-ghost use Rattle.sst_parts.specs.PartWriting.{AppendsPart, AppendsParted, AppendsTop, Closes, IsLastOf};
-ghost use Rattle.sst_parts.specs.PartWriting.{PartFileFits, TopFits};
+ghost use Rattle.sst_parts.specs.PartWriting.{AppendsPart, AppendsParted, AppendsTop, Closes, IsCurrent};
+ghost use Rattle.sst_parts.specs.PartWriting.{IsLastOf, PartFileFits, TopFits};
 ghost use Rattle.sstable_blocks.specs.Blocks.{joined};
 ghost use Rattle.sstable_blocks.specs.Footer.{run_end};
 ghost use Rattle.sstable_blocks.specs.Run.{IsWritable, form};
@@ -226,12 +226,7 @@ impl<H: BlockHash> ClosedParts<H> {
         blocks: &History<LinkedList<InternalValue>>,
         end: PartEnd,
     ) -> Result<(ClosedParts<H>, W)>
-        requires accepting { run.refusal ≡ None }
-        requires blocks { blocks.now ≡ run.blocks }
-        requires some { 1 ≤ length run.blocks }
-        requires end { IsLastOf (joined run.blocks) end.key end.seqno }
-        requires start { run.start ≡ self.after }
-        requires config { run.config ≡ self.config }
+        requires { IsCurrent self run blocks.now (Some end) }
         ensures closed { IfOk result (λ r. Closes self run.blocks r.0 (W.contents r.1)) }
         ensures reliable { IfOk result (λ r. W.never_fails run.writer → W.never_fails r.1) }
         ensures failed { IsErrOf result Io → W.never_fails run.writer → ⊥ }

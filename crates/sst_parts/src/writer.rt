@@ -4,7 +4,7 @@ ghost use Rattle.std.specs.Prelude.{OnErr, if◌then◌else◌};
 ghost use Rattle.std.specs.Prelude.{None, length, map, true};
 ghost use Rattle.sst_base.specs.declared.error.Error.TheVariants.{Io};
 ghost use Rattle.sst_parts.specs.PartWriting.{AddsTo, AppendsParted, AppendsPartedFile, EndFits};
-ghost use Rattle.sst_parts.specs.PartWriting.{IsEndOf, IsNextPart, Joins, NextFits, PartFileFits};
+ghost use Rattle.sst_parts.specs.PartWriting.{IsCurrent, IsNextPart, NextFits, PartFileFits};
 ghost use Rattle.sst_parts.specs.PartWriting.{blocks_so_far, data_len, is_full, reaches};
 ghost use Rattle.sstable_blocks.specs.Run.{IsWritable, form};
 ghost use Rattle.sstable_blocks.specs.RunReading.{hashes};
@@ -83,11 +83,8 @@ fn next_part<H: BlockHash, W: Output + Drop>(
     end: Option<PartEnd>,
     full: bool,
 ) -> Result<(ClosedParts<H>, RunWriter<H, W>)>
-    requires accepting { run.refusal ≡ None }
     requires writable { IsWritable closed.config }
-    requires joins { Joins closed run }
-    requires blocks { blocks.now ≡ run.blocks }
-    requires end { IsEndOf run.blocks end }
+    requires current { IsCurrent closed run blocks.now end }
     requires some { full ≡ true → 1 ≤ length run.blocks }
     ensures next { IfOk result (λ r. IsNextPart closed run full r.0 r.1) }
     ensures full { OnErr result (full ≡ true) }

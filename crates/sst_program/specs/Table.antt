@@ -1,12 +1,12 @@
 -- Table files: the blocks that `pack` cuts, and the bytes that it writes.
-use Rattle.std.specs.Prelude.{◌≡◌, ℕ, ◌≤◌, List, [], ◌∷◌, ◌++◌, length, Option}
+use Rattle.std.specs.Prelude.{◌≡◌, ℕ, ◌≤◌, List, [], ◌∷◌, ◌++◌, length, None, Option}
 use Rattle.std.specs.Io.KnownBytes.{Appends}
 use Rattle.sst_base.specs.Entry.{Entry}
 use Rattle.sst_base.specs.declared.error.Error.{Error}
 use Rattle.sst_base.specs.Hashes.{poly31}
 use Rattle.sstable_blocks.specs.Blocks.{joined}
 use Rattle.sstable_blocks.specs.Run.{Form, form}
-use Rattle.sstable_blocks.specs.Writing.{IsTable, IsWriteRefusal, TableFits}
+use Rattle.sstable_blocks.specs.Writing.{IsTable, IsWriteRefusal, TableFits, Writing}
 use Rattle.sstable_blocks.specs.declared.run.RunConfig.{RunConfig}
 use Rattle.sstable_blocks.specs.declared.run.RunHandles.{RunHandles}
 use Rattle.sst_program.specs.declared.pack.Packed.{Packed}
@@ -21,6 +21,11 @@ HaveSize n (block ∷ other ∷ blocks) = (length block ≡ n) × HaveSize n (ot
 pub record IsCutBy {X : Type 0} (n : ℕ) (items : List X) (blocks : List (List X)) : Type 0 where
   pub all : joined blocks ≡ items
   pub sizes : HaveSize n blocks
+
+-- a run that has no block yet, and takes some
+pub record IsFreshRun {W : Type 0} (run : Writing W) : Type 0 where
+  pub blocks : run.blocks ≡ []
+  pub accepting : run.refusal ≡ None
 
 -- how `sst` writes a run
 abbrev pub sst_form : RunConfig → Form

@@ -36,8 +36,7 @@ fn add_blocks<W: Output>(
     items: &[InternalValue],
     per_block: usize,
 ) -> Result<()>
-    requires fresh { run.old.blocks ≡ [] }
-    requires accepting { run.old.refusal ≡ None }
+    requires fresh { IsFreshRun run.old }
     requires per_block { 1 ≤ per_block }
     requires ordered { IsOrdered entries items.now }
     ensures cut { OnOk result (IsCutBy per_block items.now run.new.blocks) }

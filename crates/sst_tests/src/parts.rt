@@ -1,6 +1,5 @@
 // Parted tables, written and read.
-use crate::Tested;
-use sst_base::{BlockHandle, ByteSum, HashRatio, InternalValue, Slice, Steps, ValueType};
+use sst_base::{BlockHandle, ByteSum, Error, HashRatio, InternalValue, Slice, Steps, ValueType};
 use sst_parts::{PartSizes, PartWriter, PartedScan, PartedTable};
 use sstable_blocks::run::FrameSource;
 use sstable_blocks::{MemorySource, RunConfig};
@@ -24,6 +23,36 @@ fn versions(list: &mut Vec<InternalValue>, key: u8) -> sst_base::Result<()> {
     Ok(())
 }
 
+// The versions of six keys.
+fn six_keys(alloc: Global) -> sst_base::Result<Vec<InternalValue>> {
+    let mut list = Vec::new(alloc);
+    for key in 0u8..6 {
+        versions(&mut list, key * 2 + 1)?;
+    }
+    Ok(list)
+}
+
+// Adds a block to a parted table.
+fn add(
+    writer: PartWriter<ByteSum, Vec<u8>>,
+    block: &[InternalValue],
+) -> sst_base::Result<PartWriter<ByteSum, Vec<u8>>> {
+    if writer.fits_after(block) {
+        writer.add_block(block)
+    } else {
+        Err(Error::OutOfOrder)
+    }
+}
+
+// Ends a parted table.
+fn finish(writer: PartWriter<ByteSum, Vec<u8>>) -> sst_base::Result<(BlockHandle, Vec<u8>)> {
+    if writer.has_blocks() {
+        writer.finish()
+    } else {
+        Err(Error::OutOfOrder)
+    }
+}
+
 // A parted table of six keys, in blocks of a length and parts of these sizes, and the handle of the index
 // of its parts.
 fn written_with_top(
@@ -32,28 +61,13 @@ fn written_with_top(
     sizes: PartSizes,
     bits: u32,
 ) -> sst_base::Result<(BlockHandle, Vec<u8>)> {
-    let mut list = Vec::new(alloc);
-    for key in 0u8..6 {
-        versions(&mut list, key * 2 + 1)?;
-    }
+    let list = six_keys(alloc)?;
     let config = RunConfig::new(2, HashRatio { num: 1, den: 1 }, bits);
     let mut writer = PartWriter::<ByteSum, Vec<u8>>::new(alloc, Vec::new(alloc), config, sizes);
-    let mut rest: &[InternalValue] = &list;
-    for _ in 0..54 {
-        if rest.is_empty() {
-            break;
-        }
-        let (block, behind) = rest.split_at(len.min(rest.len()));
-        if !writer.fits_after(block) {
-            return Err(sst_base::Error::OutOfOrder);
-        }
-        writer = writer.add_block(block)?;
-        rest = behind;
+    for block in list.chunks(len.max(1)) {
+        writer = add(writer, block)?;
     }
-    if !writer.has_blocks() {
-        return Err(sst_base::Error::OutOfOrder);
-    }
-    writer.finish()
+    finish(writer)
 }
 
 // The same table alone.
@@ -62,46 +76,91 @@ fn written(alloc: Global, len: usize, sizes: PartSizes, bits: u32) -> sst_base::
     Ok(bytes)
 }
 
-// The number of reads of a parted table of six keys that give the wrong version.
-fn wrong_reads(alloc: Global, bytes: Vec<u8>) -> sst_base::Result<u64> {
-    let source = MemorySource::new(Slice::from_vec(bytes)?);
-    let mut table = PartedTable::<ByteSum, MemorySource>::open_file(alloc, source)?;
+// The sequence number of what a read of a key gives, 0 where it gives nothing.
+fn got(
+    alloc: Global,
+    table: &mut PartedTable<ByteSum, MemorySource>,
+    key: u8,
+    seqno: u64,
+) -> sst_base::Result<u64> {
+    let found = table.get(alloc, &[b'k', key], seqno, &mut Steps::new())?;
+    Ok(found.map_or(0, |entry| entry.key().seqno()))
+}
+
+// The sequence number of the newest version of a key below a number, 0 where there is none.
+fn newest(key: u8, seqno: u64) -> u64 {
+    if key % 2 == 1 && key < 12 {
+        seqno.min(10).saturating_sub(1)
+    } else {
+        0
+    }
+}
+
+// How many reads of a key give the wrong version.
+fn wrong_of_key(
+    alloc: Global,
+    table: &mut PartedTable<ByteSum, MemorySource>,
+    key: u8,
+) -> sst_base::Result<u64> {
     let mut wrong = 0u64;
-    for key in 0u8..14 {
-        for seqno in 0u64..12 {
-            let needle = [b'k', key];
-            let found = table.get(alloc, &needle, seqno, &mut Steps::new())?;
-            let want = if key % 2 == 1 && key < 12 {
-                seqno.min(10).saturating_sub(1)
-            } else {
-                0
-            };
-            let got = match found {
-                None => 0,
-                Some(entry) => InternalValue::key(&entry).seqno(),
-            };
-            if got != want {
-                wrong = wrong.saturating_add(1);
-            }
+    for seqno in 0u64..12 {
+        if got(alloc, table, key, seqno)? != newest(key, seqno) {
+            wrong = wrong.saturating_add(1);
         }
     }
     Ok(wrong)
 }
 
-#[test]
-fn versions_across_parts_are_read(rt: HostRuntime) -> Tested {
-    for len in [1usize, 4, 9] {
-        for bits in [0u32, 10] {
-            for blocks in [0usize, 2] {
-                for bytes in [0u64, 30] {
-                    let sizes = PartSizes { blocks, bytes };
-                    let wrong = wrong_reads(rt.alloc(), written(rt.alloc(), len, sizes, bits)?)?;
-                    assert_eq!(rt; wrong, 0);
-                }
-            }
-        }
+// How many reads of a parted table of six keys give the wrong version.
+fn wrong_reads(alloc: Global, bytes: Vec<u8>) -> sst_base::Result<u64> {
+    let source = MemorySource::new(Slice::from_vec(bytes)?);
+    let mut table = PartedTable::<ByteSum, MemorySource>::open_file(alloc, source)?;
+    let mut wrong = 0u64;
+    for key in 0u8..14 {
+        wrong = wrong.saturating_add(wrong_of_key(alloc, &mut table, key)?);
     }
-    Ok(())
+    Ok(wrong)
+}
+
+// How many reads are wrong of a table of a row.
+fn wrong_in_row(alloc: Global, row: &(usize, u32, usize, u64)) -> sst_base::Result<u64> {
+    let (len, bits, blocks, bytes) = *row;
+    wrong_reads(alloc, written(alloc, len, PartSizes { blocks, bytes }, bits)?)
+}
+
+// Lengths of blocks, bits of a filter for a key, blocks of a part, and bytes of a part.
+const READS: [(usize, u32, usize, u64); 24] = [
+    (1, 0, 0, 0),
+    (1, 0, 0, 30),
+    (1, 0, 2, 0),
+    (1, 0, 2, 30),
+    (1, 10, 0, 0),
+    (1, 10, 0, 30),
+    (1, 10, 2, 0),
+    (1, 10, 2, 30),
+    (4, 0, 0, 0),
+    (4, 0, 0, 30),
+    (4, 0, 2, 0),
+    (4, 0, 2, 30),
+    (4, 10, 0, 0),
+    (4, 10, 0, 30),
+    (4, 10, 2, 0),
+    (4, 10, 2, 30),
+    (9, 0, 0, 0),
+    (9, 0, 0, 30),
+    (9, 0, 2, 0),
+    (9, 0, 2, 30),
+    (9, 10, 0, 0),
+    (9, 10, 0, 30),
+    (9, 10, 2, 0),
+    (9, 10, 2, 30),
+];
+
+#[test]
+fn versions_across_parts_are_read(rt: HostRuntime) {
+    for row in &READS {
+        assert!(rt; wrong_in_row(rt.alloc(), row) == Ok(0));
+    }
 }
 
 // A place of an entry: the last byte of its key, and its sequence number.

@@ -1,6 +1,2 @@
-mod Firsts
-pub mod Follows
-pub mod Limits
-pub mod Prefixes
-mod Printed
-mod Passed
+mod Scanning
+mod Printing

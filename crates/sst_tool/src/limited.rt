@@ -30,7 +30,7 @@ impl<I> Limited<I> {
 }
 
 // Takes the next entry of a source, if some may be taken, and counts it.
-#[tactic(auto, using(crate::proofs::Limits::limited_takes))]
+#[tactic(auto, using(crate::proofs::Scanning::Limits::limited_takes))]
 fn next_counted<I: Source<InternalValue>>(
     alloc: Global,
     source: &mut I,

@@ -37,6 +37,11 @@ pub back_in_order : {X : Type 0} (cmp : X → X → Ordering) (xs ys : List X) �
 back_in_order cmp [] ys h = h
 back_in_order cmp (x ∷ xs) ys h = back_in_order cmp xs ys (tail_in_order cmp x (xs ++ ys) h)
 
+-- what holds of all items of a list, and of one more
+pub all_push : {X : Type 0} (P : X → Type 0) (xs : List X) (x : X) → AllByRecursion P xs → P x → AllByRecursion P (xs ++ x ∷ [])
+all_push P [] x all p = (p, tt)
+all_push P (y ∷ ys) x all p = (all.0, all_push P ys x all.1 p)
+
 -- what holds of all items of a list holds of those of its parts
 pub all_front : {X : Type 0} (P : X → Type 0) (xs ys : List X) → AllByRecursion P (xs ++ ys) → AllByRecursion P xs
 all_front P [] ys h = tt

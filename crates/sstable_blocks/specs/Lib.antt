@@ -39,6 +39,9 @@ pub mod SoundReadLaws
 pub mod KeptLaws
 pub mod TableCountLaws
 pub mod BoundLaws
+pub mod BetweenLaws
+pub mod RisingLaws
+pub mod RangeReadLaws
 pub mod Callers
 pub mod Prelude
 pub mod RunBlocks

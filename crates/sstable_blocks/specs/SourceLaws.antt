@@ -1,5 +1,5 @@
--- Failures of sources.
-use Rattle.std.proofs.Common.{inl, inr}
+-- Failures of sources, and what follows of results.
+use Rattle.std.proofs.Common.{inl, inr, Result, Ok, Err, IfOk}
 use Rattle.sst_base.specs.declared.error.Error.{Error}
 use Rattle.sstable_blocks.specs.Sources.{IsSourceFailure}
 
@@ -19,3 +19,8 @@ fails_outside f r = elim f.1 [
   | inl io ↦ io.1 r
   | inr past ↦ past.1
 ]
+
+-- what holds of a result that is no error implies more
+pub if_ok_map : {T : Type 0} (r : Result T Error) (P Q : T → Type 0) → ((x : T) → P x → Q x) → IfOk r P → IfOk r Q
+if_ok_map (Ok x) P Q f h = f x h
+if_ok_map (Err e) P Q f h = tt

@@ -7,7 +7,7 @@ use Rattle.std.specs.declared.cmp.Ordering.{Ordering}
 use Rattle.std.specs.declared.cmp.Ordering.TheVariants.{Less}
 use Rattle.std.proofs.lemmas.Bool.{cases_lt}
 use Rattle.std.proofs.lemmas.List.{length_push, take_all, at_drop_all}
-use Rattle.std.proofs.lemmas.Nat.{div-add-mod', mod-mul-add}
+use Rattle.std.proofs.lemmas.Nat.{mod-mul-add}
 use Rattle.std.proofs.Math.Nat.{mul-mod_left, mul-div_cancel_left}
 use Rattle.sst_base.specs.Bytes.{IsBytes}
 use Rattle.sst_base.specs.Order.{IsInOrder}
@@ -22,6 +22,7 @@ use Rattle.sst_block_core.specs.declared.table.block.check.keys.KeyVersion.{KeyV
 use Rattle.sst_block_core.specs.declared.table.block.check.pass.PassState.{PassState}
 use Rattle.sst_block_core.proofs.Check.KeyOrders.{not_before}
 use Rattle.sst_block_core.proofs.Check.ItemReads.{read_offset, read_none}
+use Rattle.sst_block_core.proofs.Items.BackCosts.{first_head}
 use Rattle.sst_block_core.proofs.Writing.Written.{place_same}
 
 last_push : {X : Type 0} (xs : List X) (x : X) → last_passed (xs ++ x ∷ []) ≡ Some x
@@ -80,9 +81,6 @@ module _ {X : Type 0} (kind : Kind X) (r : ℕ) (pos : 0 < r) (pointers : List �
   place_last : (xs : List X) → place_offset kind r xs (length xs) ≡ length (body kind r xs)
   place_last xs = ap (λ ys. length (body kind r ys)) (take_all (length xs) xs (omega arith))
 
-  head_again : (n : ℕ) → n % r ≡ 0 → n / r * r ≡ n
-  head_again n z = let d = div-add-mod' n r in omega (arith, d, z)
-
   pub pointed_push : (xs : List X) (x : X) (place phase offset : ℕ) (o t : Bool) → phase ≡ place % r → place ≡ length xs → offset ≡ length (body kind r xs)
       → IsTrue o ↔ ArePointed kind r pointers xs → IsTrue t ↔ (phase ≡ 0 → get_or pointers (place / r) 0 ≡ offset)
       → IsTrue (o && t) ↔ ArePointed kind r pointers (xs ++ x ∷ [])
@@ -101,7 +99,7 @@ module _ {X : Type 0} (kind : Kind X) (r : ℕ) (pos : 0 < r) (pointers : List �
         (λ all. (both o t).0 (
           so_far.1 (λ j old. all j (omega (arith, l, old)) ∙ place_same kind r xs x (j * r) (omega arith)),
           here.1 (λ z.
-              let q = head_again place (sym in_row ∙ z) in
+              let q = first_head r place (sym in_row ∙ z) in
               all (place / r) (omega (arith, l, q, n)) ∙ ap (place_offset kind r (xs ++ x ∷ [])) (q ∙ n) ∙ place_same kind r xs x (length xs) (omega arith) ∙ place_last xs ∙ sym e),
         )),
       )

@@ -18,7 +18,8 @@ rest_upto true c m k f h e l = h refl
 rest_upto false true m k f h e l = cc
 rest_upto false false m k f h e l = l
 
-first_head : (r m : ℕ) → m % r ≡ 0 → m / r * r ≡ m
+-- an index that begins an interval
+pub first_head : (r m : ℕ) → m % r ≡ 0 → m / r * r ≡ m
 first_head r m h = let d = mod-add-div' m r in omega (arith, d, h)
 
 pays : (b : Bool) (hi f t : ℕ) → 0 < hi → f ≤ hi → t ≤ f → (1 + cond b (hi - f) 0) + ((hi - 1) + t) ≤ hi + cond b hi f

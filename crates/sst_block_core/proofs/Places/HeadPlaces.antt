@@ -11,6 +11,7 @@ use Rattle.sst_block_core.specs.Pointers.{head_count, pointers, pointers_in}
 use Rattle.sst_block_core.specs.Buckets.{buckets, stored_count}
 use Rattle.sst_block_core.specs.Payload.{IsEncoding, trailer_of}
 use Rattle.sst_block_core.specs.Stages.{items_in, pointer_bytes, HasParts}
+use Rattle.sst_block_core.specs.ListLaws.{all_drop}
 use Rattle.sst_block_core.specs.Scan.{Listed, IsFormOffset, IsPlace}
 use Rattle.sst_block_core.specs.Intervals.{IsIndexed}
 use Rattle.sst_block_core.specs.BodyLaws.{forms_again}
@@ -18,11 +19,6 @@ use Rattle.sst_block_core.specs.OffsetLaws.{body-append, place_inside, place_pla
 use Rattle.sst_block_core.specs.CanonicalLaws.{encoded_from}
 use Rattle.sst_block_core.specs.OpeningLaws.{opened}
 use Rattle.sst_block_core.proofs.Places.PointerReads.{pointers_count, pointer_is}
-
-all_drop : {X : Type 0} (P : X → Type 0) (n : ℕ) (xs : List X) → AllByRecursion P xs → AllByRecursion P (drop n xs)
-all_drop P zero xs h = h
-all_drop P (suc n) [] h = tt
-all_drop P (suc n) (x ∷ xs) h = all_drop P n xs h.1
 
 -- which intervals of n items there are
 pub head_below : (r n j : ℕ) → 0 < r → (j < head_count r n) ↔ (j * r < n)

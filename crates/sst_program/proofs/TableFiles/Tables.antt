@@ -12,6 +12,7 @@ use Rattle.sstable_blocks.specs.Writing.{IsTable, AppendsTable, FrameFits, Table
 use Rattle.sstable_blocks.specs.declared.run.RunConfig.{RunConfig}
 use Rattle.sstable_blocks.specs.declared.run.RunHandles.{RunHandles}
 use Rattle.sst_program.specs.Table.{HaveSize, IsCutBy, IsTooLong, AppendsPacked, sst_form}
+use Rattle.sstable_blocks.specs.EndLaws.{front_in_order}
 
 -- all blocks have n items
 abbrev pub AreFull : {X : Type 0} → ℕ → List (List X) → Type 0
@@ -27,12 +28,6 @@ size-next n [] block h some most = (some, most)
 size-next n (b ∷ []) block h some most = (h.0, (some, most))
 size-next n (b ∷ c ∷ blocks) block h some most = (h.0, size-next n (c ∷ blocks) block h.1 some most)
 
--- the prefix of an ordered list
-pub ordered-front : (a b : List Entry) → IsOrdered entries (a ++ b) → IsOrdered entries a
-ordered-front [] b h = tt
-ordered-front (x ∷ []) b h = tt
-ordered-front (x ∷ y ∷ a) b h = (h.0, ordered-front (y ∷ a) b h.1)
-
 -- a block more, cut from what is left
 pub all-next : {X : Type 0} (blocks : List (List X)) (block behind rest items : List X) → joined blocks ++ rest ≡ items → rest ≡ block ++ behind
     → joined (blocks ++ block ∷ []) ++ behind ≡ items
@@ -42,7 +37,7 @@ all-next blocks block behind rest items all cut =
 pub ordered-next : (blocks : List (List Entry)) (block behind rest items : List Entry) → joined blocks ++ rest ≡ items → rest ≡ block ++ behind
     → IsOrdered entries items → IsOrdered entries (joined (blocks ++ block ∷ []))
 ordered-next blocks block behind rest items all cut h =
-    ordered-front (joined (blocks ++ block ∷ [])) behind (rw (all-next blocks block behind rest items all cut) h)
+    front_in_order _ (joined (blocks ++ block ∷ [])) behind (rw (all-next blocks block behind rest items all cut) h)
 
 -- blocks of a size, written as a table
 pub table-of : (config config' : RunConfig) (n : ℕ) (items : List Entry) (blocks : List (List Entry)) (h : RunHandles) (old start after : Option (List ℕ)) (count len : ℕ)

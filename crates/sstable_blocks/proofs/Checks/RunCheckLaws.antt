@@ -43,6 +43,7 @@ use Rattle.sstable_blocks.specs.MeaningLaws.{payload_at_takes}
 use Rattle.sstable_blocks.specs.OpeningLaws.{framed_size, frame_range, stored_ends, stored_count}
 use Rattle.sstable_blocks.proofs.Checks.RunSummaries.{passed_block, passed_all, summary_all}
 use Rattle.sstable_blocks.specs.SoundReadLaws.{bind_to, data_ok, index_ok, framed_is_read}
+use Rattle.sstable_blocks.specs.EndLaws.{back_in_order, tail_in_order}
 
 -- what a test that went on says
 demand_ok : {A : Type 0} (b : Bool) (e : Error) (k : Unit {0} → Result A Error) (y : A) → (demand b e >>= k) ≡ Ok y → (b ≡ true) × (k tt ≡ Ok y)
@@ -193,14 +194,6 @@ ordered_join block h i rest a c b =
     subst (IsOrdered entries) (sym (whole_rest block h i rest))
     (order_join (item_cmp entries) i.front i.last rest (subst (IsOrdered entries) i.whole a) (after_last block h i rest c b))
 
-tail_ordered : (x : Entry) (xs : List Entry) → IsOrdered entries (x ∷ xs) → IsOrdered entries xs
-tail_ordered x [] h = tt
-tail_ordered x (y ∷ ys) h = h.1
-
-back_ordered : (front : List Entry) (xs : List Entry) → IsOrdered entries (front ++ xs) → IsOrdered entries xs
-back_ordered [] xs h = h
-back_ordered (x ∷ front) xs h = back_ordered front xs (tail_ordered x (front ++ xs) h)
-
 follows_last : (block : List Entry) (h : Handle) (i : IsEnd entries handles block h) (rest : List Entry) → IsOrdered entries (i.last ∷ rest) → FollowsLast (Some h) rest
 follows_last block h i [] o = tt
 follows_last block h i (y ∷ ys) o = λ less. o.0 (sym (end_cmp-last block h i y) ∙ less)
@@ -322,9 +315,9 @@ module _ (c : Hashes) (sums : (bytes : List ℕ) → c.hash128 bytes < 2 ^ 128)
         let k = stored.0 in
         let i = k.end in
         let read = block_passes h b valid.0 k in
-        let after = back_ordered i.front (i.last ∷ joined bs) (subst (IsOrdered entries) (whole_rest b h i (joined bs)) order) in
+        let after = back_in_order (item_cmp entries) i.front (i.last ∷ joined bs) (subst (IsOrdered entries) (whole_rest b h i (joined bs)) order) in
         let t = passed_block s h b in
-        let rest = passes_on f t bs hs valid.1 stored.1 at.1 (follows_last b h i (joined bs) after) (tail_ordered i.last (joined bs) after) (contains_back c.hash64 f b (joined bs) contained) in
+        let rest = passes_on f t bs hs valid.1 stored.1 at.1 (follows_last b h i (joined bs) after) (tail_in_order (item_cmp entries) i.last (joined bs) after) (contains_back c.hash64 f b (joined bs) contained) in
         let through = entries_to c.hash64 f h false (s.least, s.greatest) b (joined bs) contained (end_to h b i) in
         let now : Ok (passed_on s h (map plain b) (least_from s.least b, greatest_from s.greatest b)) ≡ Ok t = ap (λ u. Ok u) (passed_plain s h b (least_from s.least b, greatest_from s.greatest b)) in
         let items : check_items c.hash64 f s h (map plain b) ≡ Ok t =

@@ -1,7 +1,6 @@
 -- The filter of a list of hashes.
-use Rattle.std.proofs.Common.{◌≡◌, ℕ, ◌+◌, ◌<◌, List, [], ◌∷◌, ◌++◌, length, take, get_or, sym, subst, Result, Ok, Err, IfOk}
+use Rattle.std.proofs.Common.{◌≡◌, ℕ, ◌+◌, ◌<◌, List, [], ◌∷◌, ◌++◌, length, take, get_or, sym, subst}
 use Rattle.std.proofs.lemmas.List.{take_more}
-use Rattle.sst_base.specs.declared.error.Error.{Error}
 use Rattle.sstable_blocks.specs.Filter.{Filter, IsFilterOf, bit_count, probe_count, filter_payload}
 use Rattle.sstable_blocks.specs.Run.{IsFilterText}
 
@@ -10,7 +9,3 @@ next_inserted hashes i f h is = subst (λ xs. IsFilterOf xs f) (sym (take_more h
 
 pub filter_text : (hashes : List ℕ) (bits : ℕ) (p : List ℕ) (f : Filter) → f.m ≡ bit_count (length hashes) bits → f.k ≡ probe_count bits → IsFilterOf hashes f → p ≡ filter_payload f → IsFilterText hashes bits p
 filter_text hashes bits p f m k is e = record { filter = f; m = m; k = k; inserted = is; text = e }
-
-pub if_ok_map : {T : Type 0} (r : Result T Error) (P Q : T → Type 0) → ((x : T) → P x → Q x) → IfOk r P → IfOk r Q
-if_ok_map (Ok x) P Q f h = f x h
-if_ok_map (Err e) P Q f h = tt

@@ -4,6 +4,7 @@ use Rattle.std.proofs.lemmas.List.{length-map}
 use Rattle.std.proofs.lemmas.Option.{slice_get-map}
 use Rattle.std.specs.List.{slice_get}
 use Rattle.std.specs.Option.{option_map}
+use Rattle.sst_block_core.specs.BodyLaws.{get_or-map_own}
 
 module _ {X Y : Type 0} (f : X → Y) where
   pub get_mapped : (xs : List X) (i : ℕ) (x : X) → slice_get xs i ≡ Some x → slice_get (map f xs) i ≡ Some (f x)
@@ -25,11 +26,6 @@ module _ {X Y : Type 0} (f : X → Y) where
   pub back_mapped : (n : ℕ) (xs ys : List X) → ys ≡ drop n xs → map f ys ≡ drop n (map f xs)
   back_mapped n xs ys e = ap (map f) e ∙ map-drop n xs
 
-  get_or_mapped : (xs : List X) (i : ℕ) (d : X) → get_or (map f xs) i (f d) ≡ f (get_or xs i d)
-  get_or_mapped [] i d = refl
-  get_or_mapped (x ∷ xs) zero d = refl
-  get_or_mapped (x ∷ xs) (suc i) d = get_or_mapped xs i d
-
   -- a last item
   pub last_mapped : (xs : List X) (x : X) → x ≡ get_or xs (length xs - 1) x → f x ≡ get_or (map f xs) (length (map f xs) - 1) (f x)
-  last_mapped xs x e = ap f e ∙ sym (get_or_mapped xs (length xs - 1) x) ∙ ap (λ n. get_or (map f xs) (n - 1) (f x)) (sym (length-map xs f))
+  last_mapped xs x e = ap f e ∙ sym (get_or-map_own f xs (length xs - 1) x) ∙ ap (λ n. get_or (map f xs) (n - 1) (f x)) (sym (length-map xs f))

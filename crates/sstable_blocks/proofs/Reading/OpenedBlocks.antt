@@ -14,7 +14,8 @@ use Rattle.sstable_blocks.specs.RunBlocks.{blocks_in}
 use Rattle.sstable_blocks.specs.RunReading.{Hashes}
 use Rattle.sstable_blocks.specs.Sound.{IsSound, IsStoredBlock, RunParts}
 use Rattle.sstable_blocks.specs.declared.run.RunHandles.{RunHandles}
-use Rattle.sstable_blocks.specs.BoundLaws.{plain_ordered}
+use Rattle.sst_block_core.specs.WindowLaws.{take_one_more}
+use Rattle.sstable_blocks.specs.BoundLaws.{joined_plain, plain_ordered}
 
 -- two lists that have the same at each index
 same_lists : (f : Handle → List Entry) (hs : List Handle) (blocks : List (List Entry)) → length hs ≡ length blocks
@@ -32,10 +33,6 @@ sound_blocks hash64 blocks run o =
     same_lists (λ (h : Handle). items_in entries (payload_in run.bytes (range_of h))) (index_in run.bytes run.handles.index) blocks o.count
     (λ n g at. (let b = o.block_open n g at in (b.0, b.1, b.2.items)))
 
-joined_plain : (blocks : List (List Entry)) → joined (map (map plain) blocks) ≡ map plain (joined blocks)
-joined_plain [] = refl
-joined_plain (b ∷ blocks) = ap (λ xs. map plain b ++ xs) (joined_plain blocks) ∙ sym (map-append plain b (joined blocks))
-
 pub sound_ordered : (c : Hashes) (blocks : List (List Entry)) (bytes : List ℕ) (h : RunHandles) → IsSound c blocks bytes h → IsOrdered entries (joined (map (map plain) blocks))
 sound_ordered c blocks bytes h sound = subst (IsOrdered entries) (sym (joined_plain blocks)) (plain_ordered (joined blocks) sound.ordered)
 
@@ -51,22 +48,7 @@ not_empty c bytes (b ∷ blocks) (h ∷ hs) all = (
 pub sound_some : (c : Hashes) (blocks : List (List Entry)) (bytes : List ℕ) (h : RunHandles) → IsSound c blocks bytes h → AllByRecursion IsNotEmpty (map (map plain) blocks)
 sound_some c blocks bytes h sound = not_empty c bytes blocks sound.handles sound.stored
 
--- an index within a list has an item
-pub there : {A : Type 0} (xs : List A) (i : ℕ) → i < length xs → (x : A) × (slice_get xs i ≡ Some x)
-there [] i h = absurd (omega (arith, h))
-there (x ∷ xs) zero h = (x, refl)
-there (x ∷ xs) (suc i) h = there xs i (omega (arith, h))
-
-none_of : {B : Type 0} (hs : List B) → take 0 hs ≡ []
-none_of [] = refl
-none_of (y ∷ hs) = refl
-
-take_next : {B : Type 0} (hs : List B) (i : ℕ) (h : B) → slice_get hs i ≡ Some h → take (suc i) hs ≡ take i hs ++ h ∷ []
-take_next [] i h at = absurd (cc)
-take_next (y ∷ hs) zero h at = ap (λ z. z ∷ take 0 hs) (some_is y h at) ∙ ap (λ zs. h ∷ zs) (none_of hs)
-take_next (y ∷ hs) (suc i) h at = ap (λ zs. y ∷ zs) (take_next hs i h at)
-
 -- one block more
 pub one_more : {A B C : Type 0} (f : A → C) (g : B → C) (xs : List A) (hs : List B) (i : ℕ) (x : A) (h : B) → map f xs ≡ map g (take i hs) → slice_get hs i ≡ Some h → f x ≡ g h → map f (xs ++ x ∷ []) ≡ map g (take (i + 1) hs)
 one_more f g xs hs i x h so_far at is =
-    map-append f xs (x ∷ []) ∙ ap (λ zs. zs ++ f x ∷ []) so_far ∙ ap (λ z. map g (take i hs) ++ z ∷ []) is ∙ sym (ap (map g) (ap (λ n. take n hs) (add-one i) ∙ take_next hs i h at) ∙ map-append g (take i hs) (h ∷ []))
+    map-append f xs (x ∷ []) ∙ ap (λ zs. zs ++ f x ∷ []) so_far ∙ ap (λ z. map g (take i hs) ++ z ∷ []) is ∙ sym (ap (map g) (ap (λ n. take n hs) (add-one i) ∙ take_one_more hs i h at) ∙ map-append g (take i hs) (h ∷ []))

@@ -9,7 +9,7 @@ use Rattle.sstable_blocks.specs.Ends.{Counts, IsPaid, Pays, PaysOnce, cost_betwe
 use Rattle.sstable_blocks.specs.Scans.{between}
 use Rattle.sstable_blocks.specs.Tallies.{Adds, AddsTaken, CountsFirst, CountsLast, Tally, cost_in, costs_in, tally_sum}
 use Rattle.sstable_blocks.proofs.Scans.EndSteps.{both_some, some_as}
-use Rattle.sstable_blocks.proofs.Scans.ScanSteps.{none_between, taken}
+use Rattle.sstable_blocks.specs.BetweenLaws.{first_between, none_between}
 
 -- ---- the blocks at an end
 cost_push : (f : ℕ → ℕ) (lo n : ℕ) → cost_from f lo (suc n) ≡ cost_from f lo n + f (lo + n)
@@ -103,7 +103,7 @@ module _ (bytes : List ℕ) (q : ℕ) (hs : List Handle) where
   costs_from : (f : Tally → ℕ) (n lo hi : ℕ) → hi - lo ≡ n → hi ≤ length hs → cost_from (λ i. f (cost_at i)) lo n ≡ costs_in bytes q f (between hs lo hi)
   costs_from f zero lo hi e inside = ap (costs_in bytes q f) (sym (none_between hs lo hi (omega (arith, e))))
   costs_from f (suc n) lo hi e inside =
-      let k = taken hs lo hi (omega (arith, e)) inside in
+      let k = first_between hs lo hi (omega (arith, e)) inside in
       let s : suc lo ≡ lo + 1 = omega arith in
       ap (λ o. f (cost_in bytes q o) + cost_from (λ i. f (cost_at i)) (suc lo) n) k.1
       ∙ ap (λ m. f (cost_in bytes q (Some k.0)) + m) (ap (λ i. cost_from (λ j. f (cost_at j)) i n) s ∙ costs_from f n (lo + 1) hi (omega (arith, e)) inside)

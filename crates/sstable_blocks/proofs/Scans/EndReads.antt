@@ -20,7 +20,7 @@ use Rattle.sstable_blocks.specs.Readings.{block_of_index, entries_of_index}
 use Rattle.sstable_blocks.specs.RunReading.{Hashes}
 use Rattle.sstable_blocks.specs.Scans.{KeyRange, Read, FailsFirst, FailsLast, GivesFirst, GivesLast, block_within, within, between, blocks_read, entries_read, entries_among, entries_within, reads_among, reads_of}
 use Rattle.sstable_blocks.specs.Sources.{FailsAs}
-use Rattle.sstable_blocks.proofs.Scans.ScanSteps.{none_between, taken}
+use Rattle.sstable_blocks.specs.BetweenLaws.{first_between, none_between}
 use Rattle.sstable_blocks.proofs.Scans.RunScans.{entries_again}
 
 -- lists in order, of which one is near and one is far
@@ -38,7 +38,7 @@ module _ (c : Hashes) (bytes : List ℕ) (r : KeyRange) (hs : List Handle) where
   blocks_from : (n lo hi : ℕ) → hi - lo ≡ n → hi ≤ length hs → reads_from (λ i. block_of_index c bytes r (slice_get hs i)) lo n ≡ blocks_read c bytes r (between hs lo hi)
   blocks_from zero lo hi e inside = ap (blocks_read c bytes r) (sym (none_between hs lo hi (omega (arith, e))))
   blocks_from (suc n) lo hi e inside =
-      let k = taken hs lo hi (omega (arith, e)) inside in
+      let k = first_between hs lo hi (omega (arith, e)) inside in
       let s : suc lo ≡ lo + 1 = omega arith in
       ap (λ o. reads_of (block_of_index c bytes r o) ++ reads_from (λ i. block_of_index c bytes r (slice_get hs i)) (suc lo) n) k.1
       ∙ ap (λ rs. reads_of (block_of_index c bytes r (Some k.0)) ++ rs) (ap (λ i. reads_from (λ j. block_of_index c bytes r (slice_get hs j)) i n) s ∙ blocks_from n (lo + 1) hi (omega (arith, e)) inside)
@@ -62,7 +62,7 @@ module _ (bytes : List ℕ) (r : KeyRange) (hs : List Handle) where
   entries_from : (n lo hi : ℕ) → hi - lo ≡ n → hi ≤ length hs → reads_from (λ i. Ok (entries_of_index bytes r (slice_get hs i))) lo n ≡ map Ok (entries_within bytes r (between hs lo hi))
   entries_from zero lo hi e inside = ap (λ ks. map Ok (entries_within bytes r ks)) (sym (none_between hs lo hi (omega (arith, e))))
   entries_from (suc n) lo hi e inside =
-      let k = taken hs lo hi (omega (arith, e)) inside in
+      let k = first_between hs lo hi (omega (arith, e)) inside in
       let s : suc lo ≡ lo + 1 = omega arith in
       let first = entries_of_index bytes r (Some k.0) in
       ap (λ o. map Ok (entries_of_index bytes r o) ++ reads_from (λ i. Ok (entries_of_index bytes r (slice_get hs i))) (suc lo) n) k.1

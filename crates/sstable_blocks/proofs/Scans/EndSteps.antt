@@ -10,6 +10,7 @@ use Rattle.sstable_blocks.specs.Ends.{AreEnds, Ends, GivesNext, IsFewer, IsReady
 use Rattle.sstable_blocks.specs.Scans.{reads_of}
 use Rattle.sst_base.specs.declared.error.Error.{Error}
 use Rattle.sst_block_core.specs.ListLaws.{push_reverse, all_reverse}
+use Rattle.sst_block_core.specs.ListLaws.{all_drop}
 
 -- ---- lists seen_from from an end
 reverse_map : {X Y : Type 0} (f : X → Y) (xs : List X) → reverse (map f xs) ≡ map f (reverse xs)
@@ -33,13 +34,9 @@ all_seen : {X : Type 0} (b : Bool) (P : X → Type 0) (xs : List X) → AllByRec
 all_seen true P xs a = all_reverse P xs a
 all_seen false P xs a = a
 
-all_drop : {X : Type 0} (P : X → Type 0) (xs : List X) → AllByRecursion P xs → AllByRecursion P (drop 1 xs)
-all_drop P [] a = a
-all_drop P (x ∷ xs) a = a.1
-
 -- what is left is such as all were
 all_rest : {X : Type 0} (b : Bool) (P : X → Type 0) (xs ys : List X) → seen_from b ys ≡ drop 1 (seen_from b xs) → AllByRecursion P xs → AllByRecursion P ys
-all_rest b P xs ys e a = subst (AllByRecursion P) (seen_twice b ys) (all_seen b P (seen_from b ys) (subst (AllByRecursion P) (sym e) (all_drop P (seen_from b xs) (all_seen b P xs a))))
+all_rest b P xs ys e a = subst (AllByRecursion P) (seen_twice b ys) (all_seen b P (seen_from b ys) (subst (AllByRecursion P) (sym e) (all_drop P 1 (seen_from b xs) (all_seen b P xs a))))
 
 pub seen_nil : {X : Type 0} (b : Bool) → seen_from {X = X} b [] ≡ []
 seen_nil true = refl
@@ -83,10 +80,6 @@ hi_inside false hi n h = h
 pub no_items : {X : Type 0} (xs : List X) → nat_lt 0 (length xs) ≡ false → xs ≡ []
 no_items [] e = refl
 no_items (x ∷ xs) e = absurd (let most : length (x ∷ xs) ≤ 0 = ltb-false 0 (length (x ∷ xs)) e in omega arith)
-
-some_items : {X : Type 0} (xs : List X) → nat_lt 0 (length xs) ≡ true → xs ≡ [] → ⊥
-some_items [] e z = absurd (let f : false ≡ true = e in cc)
-some_items (x ∷ xs) e z = absurd (cc)
 
 none_left : {X : Type 0} (f : ℕ → Result (List X) Error) (lo hi : ℕ) → hi ≤ lo → reads_between f lo hi ≡ []
 none_left f lo hi h =

@@ -10,6 +10,7 @@ use Rattle.sst_base.specs.Header.{◌>>=◌}
 use Rattle.sst_base.specs.declared.error.Error.{Error}
 use Rattle.sst_base.specs.declared.error.Error.TheVariants.{Memory}
 use Rattle.sst_block_core.specs.Entries.{entries}
+use Rattle.sst_block_core.specs.ListLaws.{all_drop}
 use Rattle.sst_block_core.specs.Scan.{Scan}
 use Rattle.sst_block_core.specs.Stages.{items_in}
 use Rattle.sst_block_core.specs.Handles.{Handle}
@@ -21,11 +22,6 @@ use Rattle.sstable_blocks.specs.Tallies.{Adds, CountsFirst, CountsLast, Tally, l
 use Rattle.sstable_blocks.specs.Scans.{KeyRange, MakesFirst, MakesLast, RunScanParts, ScansFirst, ScansLast, left_by, within, reads_of, blocks_read, between, entries_read, entries_within, entries_among, first_block, end_block, handles_within, run_interval, IsBlockRead}
 
 module _ {X : Type 0} (P : X → Type 0) where
-  pub some_dropped : (n : ℕ) (xs : List X) → AllByRecursion P xs → AllByRecursion P (drop n xs)
-  some_dropped zero xs a = a
-  some_dropped (suc n) [] a = tt
-  some_dropped (suc n) (x ∷ xs) a = some_dropped n xs a.1
-
   pub some_taken : (n : ℕ) (xs : List X) → AllByRecursion P xs → AllByRecursion P (take n xs)
   some_taken zero xs a = tt
   some_taken (suc n) [] a = tt
@@ -62,7 +58,7 @@ module _ (bytes : List ℕ) (r : KeyRange) where
       let lo' = first_block r hs in
       let hi' = end_block r hs in
       let ks = between hs lo' hi' in
-      let some = some_taken (IsBlockRead c bytes) (hi' - lo') _ (some_dropped (IsBlockRead c bytes) lo' hs all) in
+      let some = some_taken (IsBlockRead c bytes) (hi' - lo') _ (all_drop (IsBlockRead c bytes) lo' hs all) in
       ap (λ xs. xs ++ (entries_within bytes r (between hs lo hi) ++ back)) none ∙ ap (λ xs. entries_within bytes r (between hs lo hi) ++ xs) none'
       ∙ append-nil (entries_within bytes r (between hs lo hi)) ∙ ap (λ n. entries_within bytes r (between hs n hi)) first ∙ ap (λ n. entries_within bytes r (between hs lo' n)) last
       ∙ sym (entries_again (entries_within bytes r ks)) ∙ ap entries_read (sym (reads_are c ks some)) ∙ ap entries_read law ∙ entries_again (within r (map plain (joined blocks)))

@@ -19,25 +19,7 @@ use Rattle.sst_block_core.specs.Window.{Window, Answer, items_left, whole, passe
 use Rattle.sst_block_core.specs.Handles.{Handle, handles}
 use Rattle.sstable_blocks.specs.Scans.{KeyRange, is_before, is_up_to, first_entry, end_entry, within}
 use Rattle.sstable_blocks.proofs.Scans.ScanWindows.{within_between}
-use Rattle.sstable_blocks.specs.BoundLaws.{below_is, count_same, up_to_is}
-
--- the keys that a bound passes, by their order
-pub passed_below : {X : Type 0} (kind : Kind X) (k : List ℕ) (xs : List X) → count_passed kind k None xs ≡ count_by (λ x. is_lt (slice_cmp nat_cmp (kind.key x) k)) xs
-unfolding count_passed
-passed_below kind k xs = count_same (λ x. passes k None (kind.key x) (kind.seqno x)) (λ x. is_lt (slice_cmp nat_cmp (kind.key x) k)) (λ x. below_is (slice_cmp nat_cmp (kind.key x) k) (kind.seqno x)) xs
-
-pub passed_up_to : {X : Type 0} (kind : Kind X) (k : List ℕ) (xs : List X) → count_passed kind k (Some 0) xs ≡ count_by (λ x. is_le (slice_cmp nat_cmp (kind.key x) k)) xs
-unfolding count_passed
-passed_up_to kind k xs = count_same (λ x. passes k (Some 0) (kind.key x) (kind.seqno x)) (λ x. is_le (slice_cmp nat_cmp (kind.key x) k)) (λ x. up_to_is (slice_cmp nat_cmp (kind.key x) k) (kind.seqno x)) xs
-
--- none, and all
-pub count_none : {X : Type 0} (xs : List X) → count_by (λ x. false) xs ≡ 0
-count_none [] = refl
-count_none (x ∷ xs) = sum_by-cons (λ y. 0) x xs ∙ ap (λ n. 0 + n) (count_none xs)
-
-pub count_all : {X : Type 0} (xs : List X) → count_by (λ x. true) xs ≡ length xs
-count_all [] = refl
-count_all (x ∷ xs) = sum_by-cons (λ y. 1) x xs ∙ (let more = count_all xs in omega arith)
+use Rattle.sstable_blocks.specs.BoundLaws.{passed_below, passed_up_to, count_none, count_all}
 
 -- what a seek leaves
 abbrev FrontAt : Scan Entry → Scan Entry → Bound (List ℕ) → Type 0
@@ -79,30 +61,6 @@ front_by s t b v e h = subst (FrontAt s t) (sym e) h
 
 pub back_by : (s t : Scan Entry) (b v : Bound (List ℕ)) → b ≡ v → BackAt s t v → BackAt s t b
 back_by s t b v e h = subst (BackAt s t) (sym e) h
-
--- positions in an index
-module _ (hs : List Handle) (p : ℕ) (n k : List ℕ) (f : Option ℕ) where
-  pub before_included : (b : Bound (List ℕ)) → p ≡ count_passed handles n f hs → n ≡ k → f ≡ None → b ≡ Included k → p ≡ count_by (λ (h : Handle). is_before b h.end_key) hs
-  before_included b at same none is =
-      at ∙ ap (λ x. count_passed handles x f hs) same ∙ ap (λ o. count_passed handles k o hs) none ∙ passed_below handles k hs ∙ ap (λ (v : Bound (List ℕ)). count_by (λ (h : Handle). is_before v h.end_key) hs) (sym is)
-
-  pub before_excluded : (b : Bound (List ℕ)) → p ≡ count_passed handles n f hs → n ≡ k → f ≡ Some 0 → b ≡ Excluded k → p ≡ count_by (λ (h : Handle). is_before b h.end_key) hs
-  before_excluded b at same none is =
-      at ∙ ap (λ x. count_passed handles x f hs) same ∙ ap (λ o. count_passed handles k o hs) none ∙ passed_up_to handles k hs ∙ ap (λ (v : Bound (List ℕ)). count_by (λ (h : Handle). is_before v h.end_key) hs) (sym is)
-
-  pub up_to_included : (b : Bound (List ℕ)) → p ≡ count_passed handles n f hs → n ≡ k → f ≡ Some 0 → b ≡ Included k → p ≡ count_by (λ (h : Handle). is_up_to b h.end_key) hs
-  up_to_included b at same none is =
-      at ∙ ap (λ x. count_passed handles x f hs) same ∙ ap (λ o. count_passed handles k o hs) none ∙ passed_up_to handles k hs ∙ ap (λ (v : Bound (List ℕ)). count_by (λ (h : Handle). is_up_to v h.end_key) hs) (sym is)
-
-  pub up_to_excluded : (b : Bound (List ℕ)) → p ≡ count_passed handles n f hs → n ≡ k → f ≡ None → b ≡ Excluded k → p ≡ count_by (λ (h : Handle). is_up_to b h.end_key) hs
-  up_to_excluded b at same none is =
-      at ∙ ap (λ x. count_passed handles x f hs) same ∙ ap (λ o. count_passed handles k o hs) none ∙ passed_below handles k hs ∙ ap (λ (v : Bound (List ℕ)). count_by (λ (h : Handle). is_up_to v h.end_key) hs) (sym is)
-
-pub none_before : (hs : List Handle) (b : Bound (List ℕ)) → b ≡ Unbounded → 0 ≡ count_by (λ (h : Handle). is_before b h.end_key) hs
-none_before hs b is = sym (ap (λ (v : Bound (List ℕ)). count_by (λ (h : Handle). is_before v h.end_key) hs) is ∙ count_none hs)
-
-pub all_up_to : (hs : List Handle) (b : Bound (List ℕ)) (n : ℕ) → n ≡ length hs → b ≡ Unbounded → n ≡ count_by (λ (h : Handle). is_up_to b h.end_key) hs
-all_up_to hs b n len is = len ∙ sym (ap (λ (v : Bound (List ℕ)). count_by (λ (h : Handle). is_up_to v h.end_key) hs) is ∙ count_all hs)
 
 -- a block that was cut
 pub cut_left : (r : KeyRange) (s t u : Scan Entry) → IsOrdered entries s.window.list → s.window ≡ whole s.window.list

@@ -14,23 +14,6 @@ use Rattle.sstable_blocks.specs.Blocks.{joined}
 use Rattle.sstable_blocks.specs.Sound.{IsSound}
 use Rattle.sstable_blocks.specs.declared.run.RunHandles.{RunHandles}
 
--- the first handle between two indexes, and the last
-pub taken : (hs : List Handle) (lo hi : ℕ) → lo < hi → hi ≤ length hs → (h : Handle) × (slice_get hs lo ≡ Some h) × (between hs lo hi ≡ h ∷ between hs (lo + 1) hi)
-taken hs lo hi less inside = elim ((slice_get_cases hs lo).1) [
-  | inl here ↦ (
-      let h = here.0 in
-      let s : Window Handle = record { list = hs; lo = lo; hi = hi } in
-      let t : Window Handle = record { list = hs; lo = lo + 1; hi = hi } in
-      let some : ltb lo hi ≡ true = lt-ltb lo hi less in
-      let step : ◌≡◌ {A = Window Handle × Answer Handle} (t, item (Some h)) (next s) =
-      ap (λ (o : Option Handle). (t, item o)) (sym here.2) ∙ ap (λ b. (cond b t s, item (cond b (slice_get hs lo) None))) (sym some) in
-      (h, here.2, (next_some s t h step).0))
-  | inr past ↦ absurd (let most = past.0 in omega arith)
-]
-
-pub none_between : (hs : List Handle) (lo hi : ℕ) → hi ≤ lo → between hs lo hi ≡ []
-none_between hs lo hi less = let none : hi - lo ≡ 0 = omega arith in ap (λ n. take n (drop lo hs)) none
-
 -- the entries within a range are in it
 pub all_within : (r : KeyRange) (xs : List Entry) → AllWithin r (within r xs)
 unfolding within

@@ -1,7 +1,7 @@
 use Rattle.std.proofs.Common.{inr, refl, sym, ◌∙◌, subst}
 use Rattle.sst_block_core.specs.Entries.{entries}
 use Rattle.sst_block_core.specs.Kind.{IsOrdered}
-use Rattle.sst_c.proofs.Givens.{same_entries}
+use Rattle.sst_c.proofs.Lists.Givens.{same_entries}
 use Rattle.sst_c.proofs.data_block.checked_items.Goals as goal
 
 pub returns-then-not-are_views_ordered-clause-refused : goal.returns-then-not-are_views_ordered-clause-refused

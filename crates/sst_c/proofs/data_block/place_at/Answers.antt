@@ -2,7 +2,7 @@ use Rattle.std.proofs.Common.{subst, sym}
 use Rattle.sst_block_core.specs.ParsedEntry.{entry_of}
 use Rattle.sst_c.specs.Blocks.{IsPlaceOf}
 use Rattle.sst_c.specs.declared.data_block.SstPlace.{SstPlace}
-use Rattle.sst_c.proofs.Places.{placed}
+use Rattle.sst_c.proofs.Lists.Places.{placed}
 use Rattle.sst_c.proofs.data_block.place_at.Goals as goal
 
 pub returns : goal.returns

@@ -2,7 +2,7 @@ use Rattle.std.proofs.Common.{◌≡◌, ◌∙◌, [], drop, length, arith, sym
 use Rattle.sst_block_core.specs.ListSteps.{took_some}
 use Rattle.sst_block_core.specs.WindowLaws.{next_none}
 use Rattle.sst_block_core.specs.ParsedEntry.{entry_of, IsParsedEntry}
-use Rattle.sst_c.proofs.Listings.{first_from, item_listed}
+use Rattle.sst_c.proofs.Lists.Listings.{first_from, item_listed}
 use Rattle.sst_c.proofs.data_block.write_places.Goals as goal
 
 pub loop-i-preserved : goal.loop-i-preserved

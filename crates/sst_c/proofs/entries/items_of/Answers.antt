@@ -1,7 +1,7 @@
 use Rattle.std.proofs.Common.{refl, inr}
 use Rattle.sst_base.specs.Entry.{Entry}
 use Rattle.sst_c.specs.Given.{IsGiven}
-use Rattle.sst_c.proofs.Givens.{at_index, each_given}
+use Rattle.sst_c.proofs.Lists.Givens.{at_index, each_given}
 use Rattle.sst_c.proofs.entries.items_of.Goals as goal
 
 pub returns-in_default-item_of-clause-refused : goal.returns-in_default-item_of-clause-refused

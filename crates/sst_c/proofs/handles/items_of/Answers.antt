@@ -1,6 +1,6 @@
 use Rattle.std.proofs.Common.{inl, inr}
 use Rattle.sst_c.specs.Index.{HasEndKey}
-use Rattle.sst_c.proofs.Givens.{at_index}
+use Rattle.sst_c.proofs.Lists.Givens.{at_index}
 use Rattle.sst_c.proofs.handles.items_of.Goals as goal
 
 pub returns-in-Err-clause-refused : goal.returns-in-Err-clause-refused

@@ -3,7 +3,7 @@ use Rattle.sst_base.specs.Entry.{Entry}
 use Rattle.sst_block_core.specs.Entries.{entries}
 use Rattle.sst_block_core.specs.Kind.{IsOrdered}
 use Rattle.sstable_blocks.specs.Blocks.{CutsFit}
-use Rattle.sst_c.proofs.Givens.{same_entries}
+use Rattle.sst_c.proofs.Lists.Givens.{same_entries}
 use Rattle.sst_c.proofs.run.checked_items.Goals as goal
 
 pub returns-then-not-are_views_ordered-clause-refused : goal.returns-then-not-are_views_ordered-clause-refused

@@ -1,6 +1,6 @@
 use Rattle.xxh3.specs.Xxh3.{xxh3_64, xxh3_128}
 use Rattle.sstable_blocks.specs.RunReading.{hashes}
-use Rattle.sst_c.proofs.Places.{some_frame}
+use Rattle.sst_c.proofs.Lists.Places.{some_frame}
 use Rattle.sst_c.proofs.run.run_of.Goals as goal
 
 pub returns-in-Ok-clause-filter : goal.returns-in-Ok-clause-filter

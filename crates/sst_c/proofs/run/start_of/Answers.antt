@@ -1,7 +1,7 @@
 use Rattle.std.proofs.Common.{◌≡◌, ◌+◌, ℕ, subst}
 use Rattle.sst_c.specs.Blocks.{IsPartAt}
 use Rattle.sstable_blocks.specs.Opened.{payload_in}
-use Rattle.sst_c.proofs.Places.{frame_part}
+use Rattle.sst_c.proofs.Lists.Places.{frame_part}
 use Rattle.sst_c.proofs.run.start_of.Goals as goal
 
 pub returns : goal.returns

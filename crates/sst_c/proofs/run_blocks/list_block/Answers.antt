@@ -8,7 +8,7 @@ use Rattle.sst_c.specs.Listing.{IsListing}
 use Rattle.sst_c.specs.RunBlocks.{IsBlockListing}
 use Rattle.sst_c.specs.Runs.{run_hashes}
 use Rattle.sst_c.specs.declared.codes.Status.TheVariants.{NotFound}
-use Rattle.sst_c.proofs.BlockLists.{block_here}
+use Rattle.sst_c.proofs.Lists.BlockLists.{block_here}
 use Rattle.sst_c.proofs.run_blocks.list_block.Goals as goal
 
 pub returns-then-len-block : goal.returns-then-len-block

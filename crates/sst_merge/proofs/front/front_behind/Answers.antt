@@ -1,6 +1,6 @@
 use Rattle.std.proofs.Common.{arith, ◌∙◌, ap}
 use Rattle.sst_block_core.specs.Heads.{front}
-use Rattle.sst_merge.proofs.FrontNumbers.{behind_short}
+use Rattle.sst_merge.proofs.Merging.FrontNumbers.{behind_short}
 use Rattle.sst_merge.proofs.front.front_behind.Goals as goal
 
 pub returns : goal.returns

@@ -1,5 +1,5 @@
 use Rattle.std.proofs.Common.{arith, ◌++◌, ◌∙◌}
-use Rattle.sst_merge.proofs.FrontNumbers.{key_front_is, bytes_joined}
+use Rattle.sst_merge.proofs.Merging.FrontNumbers.{key_front_is, bytes_joined}
 use Rattle.sst_merge.specs.FrontLaws.{number_decides}
 use Rattle.sst_merge.proofs.front.front_of_key.Goals as goal
 

@@ -1,5 +1,5 @@
 use Rattle.std.proofs.Common.{arith, ◌++◌, ◌∙◌}
-use Rattle.sst_merge.proofs.FrontNumbers.{front_of_long, front_joined, front_small, bytes_joined}
+use Rattle.sst_merge.proofs.Merging.FrontNumbers.{front_of_long, front_joined, front_small, bytes_joined}
 use Rattle.sst_merge.proofs.front.front_of_parts.Goals as goal
 
 pub returns-then-left-ge8 : goal.returns-then-left-ge8

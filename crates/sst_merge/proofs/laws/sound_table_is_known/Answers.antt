@@ -1,4 +1,4 @@
-use Rattle.sst_merge.proofs.SoundTables.{sound_known}
+use Rattle.sst_merge.proofs.Moving.SoundTables.{sound_known}
 use Rattle.sst_merge.proofs.laws.sound_table_is_known.Goals as goal
 
 pub returns : goal.returns

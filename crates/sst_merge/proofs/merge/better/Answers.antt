@@ -1,6 +1,6 @@
 use Rattle.std.proofs.Common.{cond, subst}
 use Rattle.sst_merge.specs.Tournament.{IsFirstOf}
-use Rattle.sst_merge.proofs.Tournaments.{better_is}
+use Rattle.sst_merge.proofs.Merging.Tournaments.{better_is}
 use Rattle.sst_merge.proofs.merge.better.Goals as goal
 
 pub returns-then-goes_first : goal.returns-then-goes_first

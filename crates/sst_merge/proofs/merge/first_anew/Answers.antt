@@ -1,5 +1,5 @@
 use Rattle.std.proofs.Common.{◌≡◌, arith, length, subst}
-use Rattle.sst_merge.proofs.Tournaments.{GoesFirst, first_alone, first_more, pick_by}
+use Rattle.sst_merge.proofs.Merging.Tournaments.{GoesFirst, first_alone, first_more, pick_by}
 use Rattle.sst_merge.proofs.merge.first_anew.Goals as goal
 
 pub loop-i-preserved : goal.loop-i-preserved

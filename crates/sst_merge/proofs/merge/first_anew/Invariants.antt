@@ -1,5 +1,5 @@
 use Rattle.std.proofs.Common.{◌-◌, ◌<◌, ◌≤◌, length}
-use Rattle.sst_merge.proofs.Tournaments.{GoesFirst}
+use Rattle.sst_merge.proofs.Merging.Tournaments.{GoesFirst}
 use Rattle.sst_merge.proofs.merge.first_anew.Given as goal
 
 abbrev pub invariant-loop-i : goal.invariant-loop-i

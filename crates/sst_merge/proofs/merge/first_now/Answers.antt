@@ -1,6 +1,6 @@
 use Rattle.std.proofs.Common.{◌≡◌, arith, subst}
 use Rattle.sst_merge.specs.Tournament.{AreWinners, IsOnWay}
-use Rattle.sst_merge.proofs.Tournaments.{root_is_pick}
+use Rattle.sst_merge.proofs.Merging.Tournaments.{root_is_pick}
 use Rattle.sst_merge.proofs.merge.first_now.Goals as goal
 
 pub returns : goal.returns

@@ -1,6 +1,6 @@
 use Rattle.std.proofs.Common.{◌*◌, ◌+◌, ◌-◌, ◌<◌, ◌≡◌, arith, subst}
 use Rattle.sst_merge.specs.Tournament.{AreWinners}
-use Rattle.sst_merge.proofs.Tournaments.{all_fresh, place_before, place_inside}
+use Rattle.sst_merge.proofs.Merging.Tournaments.{all_fresh, place_before, place_inside}
 use Rattle.sst_merge.proofs.merge.play_all.Goals as goal
 
 pub play-requires-clause-first : goal.play-requires-clause-first

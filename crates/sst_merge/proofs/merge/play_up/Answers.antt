@@ -1,6 +1,6 @@
 use Rattle.std.proofs.Common.{◌≡◌, ◌*◌, ◌+◌, arith, subst}
 use Rattle.sst_merge.specs.Tournament.{AreWinners, IsOnWay}
-use Rattle.sst_merge.proofs.Tournaments.{place_above, place_inside, root_is_pick}
+use Rattle.sst_merge.proofs.Merging.Tournaments.{place_above, place_inside, root_is_pick}
 use Rattle.sst_merge.proofs.merge.play_up.Goals as goal
 
 pub play-requires-clause-first : goal.play-requires-clause-first

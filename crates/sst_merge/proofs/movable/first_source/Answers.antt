@@ -1,5 +1,5 @@
 use Rattle.std.proofs.Common.{arith}
-use Rattle.sst_merge.proofs.MovedLaws.{front_begins, front_found}
+use Rattle.sst_merge.proofs.Moving.MovedLaws.{front_begins, front_found}
 use Rattle.sst_merge.proofs.movable.first_source.Goals as goal
 
 pub loop-i-init : goal.loop-i-init

@@ -1,7 +1,7 @@
 use Rattle.std.proofs.Common.{◌+◌, cond, map, subst}
 use Rattle.sst_merge.specs.Movable.{IsFrontAmong}
 use Rattle.sst_merge.specs.Moved.{windows}
-use Rattle.sst_merge.proofs.MovedLaws.{front_among}
+use Rattle.sst_merge.proofs.Moving.MovedLaws.{front_among}
 use Rattle.sst_merge.proofs.movable.first_up_to.Goals as goal
 
 pub returns-then-precedes-clause-among : goal.returns-then-precedes-clause-among

@@ -1,5 +1,5 @@
 use Rattle.std.proofs.Common.{arith}
-use Rattle.sst_merge.proofs.MovedLaws.{back_begins, back_found}
+use Rattle.sst_merge.proofs.Moving.MovedLaws.{back_begins, back_found}
 use Rattle.sst_merge.proofs.movable.last_source.Goals as goal
 
 pub loop-i-init : goal.loop-i-init

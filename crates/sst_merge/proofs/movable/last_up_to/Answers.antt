@@ -1,7 +1,7 @@
 use Rattle.std.proofs.Common.{◌+◌, cond, map, subst}
 use Rattle.sst_merge.specs.Movable.{IsBackAmong}
 use Rattle.sst_merge.specs.Moved.{windows}
-use Rattle.sst_merge.proofs.MovedLaws.{back_among}
+use Rattle.sst_merge.proofs.Moving.MovedLaws.{back_among}
 use Rattle.sst_merge.proofs.movable.last_up_to.Goals as goal
 
 pub returns-then-follows-clause-among : goal.returns-then-follows-clause-among

@@ -2,8 +2,8 @@ use Rattle.std.proofs.Common.{map, slice_set, ◌<◌, ◌≡◌, length, ◌∙
 use Rattle.std.proofs.lemmas.List.{length-map, length-set}
 use Rattle.sst_merge.specs.Movable.{is_below, seek_to}
 use Rattle.sst_merge.specs.Moved.{sought}
-use Rattle.sst_merge.proofs.MovableLaws.{changed_all}
-use Rattle.sst_merge.proofs.MovedLaws.{lost_source, one_changed, stop_first}
+use Rattle.sst_merge.proofs.Moving.MovableLaws.{changed_all}
+use Rattle.sst_merge.proofs.Moving.MovedLaws.{lost_source, one_changed, stop_first}
 use Rattle.sst_merge.proofs.movable.seek_all.Goals as goal
 
 pub loop-i-preserved : goal.loop-i-preserved

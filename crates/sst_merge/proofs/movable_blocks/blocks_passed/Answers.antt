@@ -1,8 +1,8 @@
 use Rattle.std.proofs.Common.{◌+◌, ◌-◌, ◌/◌, ◌<◌, length, sym, ◌∙◌, arith}
 use Rattle.sst_block_core.specs.DataBlock.{DataRefParts}
 use Rattle.sst_merge.specs.MovableBlocks.{block_lists}
-use Rattle.sst_merge.proofs.BlockCounts.{block_side}
-use Rattle.sst_merge.proofs.BlockEnds.{map_item}
+use Rattle.sst_merge.proofs.Moving.BlockCounts.{block_side}
+use Rattle.sst_merge.proofs.Moving.BlockEnds.{map_item}
 use Rattle.sst_merge.proofs.movable_blocks.blocks_passed.Goals as goal
 
 pub loop-lo-preserved-then-passes_block : goal.loop-lo-preserved-then-passes_block

@@ -3,7 +3,7 @@ use Rattle.sstable_blocks.specs.Blocks.{joined}
 use Rattle.sst_merge.specs.Movable.{item_before}
 use Rattle.sst_merge.specs.MovableBlocks.{HoldsBack, IsBackIn, back_place, block_lists}
 use Rattle.sst_merge.specs.declared.movable_blocks.Open.{Open}
-use Rattle.sst_merge.proofs.BlockEnds.{back_ends, back_item, back_more, back_some}
+use Rattle.sst_merge.proofs.Moving.BlockEnds.{back_ends, back_item, back_more, back_some}
 use Rattle.sst_merge.proofs.movable_blocks.go_back.Goals as goal
 
 pub returns-in-Some-next_back-clause-holds : goal.returns-in-Some-next_back-clause-holds

@@ -2,7 +2,7 @@ use Rattle.std.proofs.Common.{◌+◌, Some, slice_get, ap, refl, subst, sym, �
 use Rattle.sstable_blocks.specs.Blocks.{joined}
 use Rattle.sst_merge.specs.MovableBlocks.{HoldsFront, IsFrontIn, block_lists, front_place}
 use Rattle.sst_merge.specs.declared.movable_blocks.Open.{Open}
-use Rattle.sst_merge.proofs.BlockEnds.{front_ends, front_item, front_more}
+use Rattle.sst_merge.proofs.Moving.BlockEnds.{front_ends, front_item, front_more}
 use Rattle.sst_merge.proofs.movable_blocks.go_forth.Goals as goal
 
 pub returns-in-Some-next-clause-holds : goal.returns-in-Some-next-clause-holds

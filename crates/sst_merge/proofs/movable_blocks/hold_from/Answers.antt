@@ -1,6 +1,6 @@
 use Rattle.std.proofs.Common.{subst, ◌∙◌}
 use Rattle.sst_merge.specs.MovableBlocks.{TakesFirstOf}
-use Rattle.sst_merge.proofs.BlockEnds.{left_from}
+use Rattle.sst_merge.proofs.Moving.BlockEnds.{left_from}
 use Rattle.sst_merge.proofs.movable_blocks.hold_from.Goals as goal
 
 pub returns : goal.returns

@@ -1,6 +1,6 @@
 use Rattle.std.proofs.Common.{subst, ◌∙◌}
 use Rattle.sst_merge.specs.MovableBlocks.{TakesLastOf}
-use Rattle.sst_merge.proofs.BlockEnds.{left_up_to}
+use Rattle.sst_merge.proofs.Moving.BlockEnds.{left_up_to}
 use Rattle.sst_merge.proofs.movable_blocks.hold_up_to.Goals as goal
 
 pub returns : goal.returns

@@ -1,5 +1,5 @@
 use Rattle.std.proofs.Common.{◌∙◌, sym}
-use Rattle.sst_merge.proofs.BlockEnds.{last_passes}
+use Rattle.sst_merge.proofs.Moving.BlockEnds.{last_passes}
 use Rattle.sst_merge.proofs.movable_blocks.passes_block.Goals as goal
 
 pub returns-in-Some : goal.returns-in-Some

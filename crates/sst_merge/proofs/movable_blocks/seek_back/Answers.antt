@@ -6,9 +6,9 @@ use Rattle.sst_block_core.specs.DataBlock.{DataRefParts}
 use Rattle.sstable_blocks.specs.Blocks.{joined}
 use Rattle.sst_merge.specs.Movable.{is_sought}
 use Rattle.sst_merge.specs.MovableBlocks.{block_lists, entries_before, entry_key}
-use Rattle.sst_merge.proofs.BlockCounts.{stops}
-use Rattle.sst_merge.proofs.BlockEnds.{back_at, back_held, back_none, map_item, some_in, taken}
-use Rattle.sst_merge.proofs.BlockPlaces.{before_all}
+use Rattle.sst_merge.proofs.Moving.BlockCounts.{stops}
+use Rattle.sst_merge.proofs.Moving.BlockEnds.{back_at, back_held, back_none, map_item, some_in, taken}
+use Rattle.sst_merge.proofs.Moving.BlockPlaces.{before_all}
 use Rattle.sst_merge.proofs.movable_blocks.seek_back.Goals as goal
 
 pub returns-then-index-blocks-clause-place : goal.returns-then-index-blocks-clause-place

@@ -4,8 +4,8 @@ use Rattle.std.specs.List.{count_by}
 use Rattle.sst_block_core.specs.DataBlock.{DataRefParts}
 use Rattle.sst_merge.specs.Movable.{is_sought}
 use Rattle.sst_merge.specs.MovableBlocks.{block_lists, entries_before, entry_key}
-use Rattle.sst_merge.proofs.BlockCounts.{stops}
-use Rattle.sst_merge.proofs.BlockEnds.{front_at, front_held, map_item, dropped}
+use Rattle.sst_merge.proofs.Moving.BlockCounts.{stops}
+use Rattle.sst_merge.proofs.Moving.BlockEnds.{front_at, front_held, map_item, dropped}
 use Rattle.sst_merge.proofs.movable_blocks.seek_front.Goals as goal
 
 pub returns-then-index-blocks-clause-place : goal.returns-then-index-blocks-clause-place

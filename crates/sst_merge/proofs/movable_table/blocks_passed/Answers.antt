@@ -5,7 +5,7 @@ use Rattle.sst_block_core.specs.Window.{count_passed}
 use Rattle.sstable_blocks.specs.RunReading.{hashes}
 use Rattle.sst_merge.specs.MovableBlocks.{is_block_sought}
 use Rattle.sst_merge.specs.MovableTables.{table_blocks}
-use Rattle.sst_merge.proofs.TableEnds.{are_read, for_known, passed_same}
+use Rattle.sst_merge.proofs.Moving.TableEnds.{are_read, for_known, passed_same}
 use Rattle.sst_merge.proofs.movable_table.blocks_passed.Goals as goal
 
 pub returns : goal.returns

@@ -5,8 +5,8 @@ use Rattle.sstable_blocks.specs.Opened.{range_of}
 use Rattle.sstable_blocks.specs.RunReading.{block_items_at, hashes}
 use Rattle.sstable_blocks.specs.Sources.{FailsAs}
 use Rattle.sst_merge.specs.MovableTables.{table_blocks}
-use Rattle.sst_merge.proofs.CutSteps.{item_found}
-use Rattle.sst_merge.proofs.TableEnds.{are_read, at_handle, block_fails, block_there, for_known}
+use Rattle.sstable_blocks.specs.BetweenLaws.{item_found}
+use Rattle.sst_merge.proofs.Moving.TableEnds.{are_read, at_handle, block_fails, block_there, for_known}
 use Rattle.sst_merge.proofs.movable_table.entries_at.Goals as goal
 
 pub returns-in-Ok-clause-block : goal.returns-in-Ok-clause-block

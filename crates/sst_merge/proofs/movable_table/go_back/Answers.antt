@@ -5,7 +5,7 @@ use Rattle.sstable_blocks.specs.RunReading.{hashes}
 use Rattle.std.proofs.Common.{◌≤◌, length}
 use Rattle.sst_merge.specs.MovableTables.{IsBackAt, OfBlocks, TableEnd}
 use Rattle.sst_merge.specs.MovableBlocks.{entries_before}
-use Rattle.sst_merge.proofs.TableEnds.{back_more_left, back_next, gave_last, gave_none_last}
+use Rattle.sst_merge.proofs.Moving.TableEnds.{back_more_left, back_next, gave_last, gave_none_last}
 use Rattle.sst_merge.proofs.movable_table.go_back.Goals as goal
 
 pub returns-in-Some-2-clause-step : goal.returns-in-Some-2-clause-step

@@ -5,7 +5,7 @@ use Rattle.sst_block_core.specs.Window.{Window, items_left, next, some_left}
 use Rattle.sstable_blocks.specs.RunReading.{hashes}
 use Rattle.sst_merge.specs.MovableTables.{IsFrontAt, OfBlocks, TableEnd}
 use Rattle.sst_merge.specs.MovableBlocks.{entries_before}
-use Rattle.sst_merge.proofs.TableEnds.{forth_more, forth_next, gave_first, gave_none_first}
+use Rattle.sst_merge.proofs.Moving.TableEnds.{forth_more, forth_next, gave_first, gave_none_first}
 use Rattle.sst_merge.proofs.movable_table.go_forth.Goals as goal
 
 -- a step keeps the list of a window

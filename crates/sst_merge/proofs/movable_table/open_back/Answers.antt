@@ -1,6 +1,6 @@
 use Rattle.std.proofs.Common.{◌≡◌, ◌-◌, ap, arith, length, suc}
 use Rattle.sstable_blocks.specs.RunReading.{hashes}
-use Rattle.sst_merge.proofs.TableEnds.{no_back, no_back_behind, opens_back}
+use Rattle.sst_merge.proofs.Moving.TableEnds.{no_back, no_back_behind, opens_back}
 use Rattle.sst_merge.proofs.movable_table.open_back.Goals as goal
 
 pub returns-then-index-eq0-clause-back : goal.returns-then-index-eq0-clause-back

@@ -1,6 +1,6 @@
 use Rattle.std.proofs.Common.{ap, arith, length}
 use Rattle.sstable_blocks.specs.RunReading.{hashes}
-use Rattle.sst_merge.proofs.TableEnds.{sought_none, sought_some, sought_whole}
+use Rattle.sst_merge.proofs.Moving.TableEnds.{sought_none, sought_some, sought_whole}
 use Rattle.sst_merge.proofs.movable_table.seek_back.Goals as goal
 
 pub returns-then-index-len-clause-back : goal.returns-then-index-len-clause-back

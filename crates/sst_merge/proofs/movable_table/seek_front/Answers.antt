@@ -1,6 +1,6 @@
 use Rattle.std.proofs.Common.{ap, arith, length}
 use Rattle.sstable_blocks.specs.RunReading.{hashes}
-use Rattle.sst_merge.proofs.TableEnds.{sought_behind, sought_front}
+use Rattle.sst_merge.proofs.Moving.TableEnds.{sought_behind, sought_front}
 use Rattle.sst_merge.proofs.movable_table.seek_front.Goals as goal
 
 pub returns-then-index-len-clause-front : goal.returns-then-index-len-clause-front

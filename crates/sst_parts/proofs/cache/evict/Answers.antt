@@ -1,7 +1,7 @@
 use Rattle.std.proofs.Common.{◌≤◌, arith, sym, ◌∙◌, ap, List}
 use Rattle.lru.specs.LruCache.{lru_cache}
 use Rattle.sst_parts.specs.Caches.{Kept, fitting, kept_bytes}
-use Rattle.sst_parts.proofs.Caching.{fitting_all}
+use Rattle.sst_parts.proofs.Cached.Caching.{fitting_all}
 use Rattle.sst_parts.proofs.cache.evict.Goals as goal
 
 pub returns-clause-kept : goal.returns-clause-kept

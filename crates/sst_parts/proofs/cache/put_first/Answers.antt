@@ -1,7 +1,7 @@
 use Rattle.std.proofs.Common.{ℕ, ◌<◌, ◌^◌, List, length, arith, sym, ◌∙◌, ap}
 use Rattle.lru.specs.LruCache.{lru_cache}
 use Rattle.sst_parts.specs.Caches.{Kept}
-use Rattle.sst_parts.proofs.Caching.{ok_gives, put_first}
+use Rattle.sst_parts.proofs.Cached.Caching.{ok_gives, put_first}
 use Rattle.sst_parts.proofs.cache.put_first.Goals as goal
 
 pub returns-clause-put : goal.returns-clause-put

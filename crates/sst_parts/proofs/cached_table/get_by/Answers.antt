@@ -1,7 +1,7 @@
 use Rattle.std.proofs.Common.{ℕ, Option, Ok, sym, ◌∙◌, ap}
 use Rattle.std.proofs.lemmas.Result.{err_from_is_err_and}
-use Rattle.sst_parts.proofs.CachedReads.{read_counted, read_gives}
-use Rattle.sst_parts.proofs.Located.{at_none, at_refused}
+use Rattle.sst_parts.proofs.Cached.CachedReads.{read_counted, read_gives}
+use Rattle.sst_parts.proofs.Reading.Located.{at_none, at_refused}
 use Rattle.sst_parts.specs.Caches.{frames_for, kept_at}
 use Rattle.sstable_blocks.specs.RunReading.{hashes}
 use Rattle.sst_parts.proofs.cached_table.get_by.Goals as goal

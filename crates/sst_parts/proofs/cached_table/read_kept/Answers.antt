@@ -1,5 +1,5 @@
 use Rattle.std.specs.List.{slice_get}
-use Rattle.sst_parts.proofs.CachedReads.{kept_read}
+use Rattle.sst_parts.proofs.Cached.CachedReads.{kept_read}
 use Rattle.sstable_blocks.specs.RunReading.{hashes}
 use Rattle.sst_parts.proofs.cached_table.read_kept.Goals as goal
 

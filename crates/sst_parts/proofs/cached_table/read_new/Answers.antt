@@ -1,5 +1,5 @@
 use Rattle.std.proofs.lemmas.Result.{err_from_is_err_and}
-use Rattle.sst_parts.proofs.CachedReads.{block_read, handle_counted, refused_read}
+use Rattle.sst_parts.proofs.Cached.CachedReads.{block_read, handle_counted, refused_read}
 use Rattle.sstable_blocks.specs.RunReading.{hashes}
 use Rattle.sst_parts.proofs.cached_table.read_new.Goals as goal
 

@@ -1,6 +1,6 @@
 use Rattle.std.proofs.Common.{inl, inr}
 use Rattle.std.proofs.lemmas.Result.{err_from_is_err_and}
-use Rattle.sst_parts.proofs.Closings.{part_file, part_too_long}
+use Rattle.sst_parts.proofs.Writing.Closings.{part_file, part_too_long}
 use Rattle.sst_parts.proofs.closed.end_part.Goals as goal
 
 pub returns-in_err-size-clause-cause : goal.returns-in_err-size-clause-cause

@@ -4,7 +4,7 @@ use Rattle.sst_block_core.specs.Kind.{IsOrdered}
 use Rattle.sst_block_core.specs.Window.{first_match}
 use Rattle.sstable_blocks.specs.Blocks.{joined}
 use Rattle.sstable_blocks.specs.Lookup.{IsEnd, first_in, place_for}
-use Rattle.sst_parts.proofs.Joins.{joined-map, zip-map}
+use Rattle.sst_parts.proofs.Writing.Joins.{joined-map, zip-map}
 use Rattle.sst_parts.proofs.laws.first_match_is_in_one_part.Goals as goal
 
 pub returns : goal.returns

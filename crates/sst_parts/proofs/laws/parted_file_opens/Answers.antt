@@ -1,4 +1,4 @@
-use Rattle.sst_parts.proofs.PartReads.{file_opens}
+use Rattle.sst_parts.proofs.Reading.PartReads.{file_opens}
 use Rattle.sst_parts.proofs.laws.parted_file_opens.Goals as goal
 
 pub returns : goal.returns

@@ -1,4 +1,4 @@
-use Rattle.sst_parts.proofs.PartReads.{parted_read}
+use Rattle.sst_parts.proofs.Reading.PartReads.{parted_read}
 use Rattle.sst_parts.proofs.laws.parted_is_read.Goals as goal
 
 pub returns : goal.returns

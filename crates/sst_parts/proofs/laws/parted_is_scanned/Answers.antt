@@ -1,4 +1,4 @@
-use Rattle.sst_parts.proofs.PartedScans.{parted_scanned}
+use Rattle.sst_parts.proofs.Scanning.PartedScans.{parted_scanned}
 use Rattle.sst_parts.proofs.laws.parted_is_scanned.Goals as goal
 
 pub returns : goal.returns

@@ -1,4 +1,4 @@
-use Rattle.sst_parts.proofs.Files.{layout_is_file}
+use Rattle.sst_parts.proofs.Writing.Files.{layout_is_file}
 use Rattle.sst_parts.proofs.laws.parted_layout_is_parted.Goals as goal
 
 pub returns : goal.returns

@@ -1,5 +1,5 @@
 use Rattle.std.proofs.lemmas.Result.{err_from_is_err_and}
-use Rattle.sst_parts.proofs.Located.{at_fails, at_found, at_none, at_refused}
+use Rattle.sst_parts.proofs.Reading.Located.{at_fails, at_found, at_none, at_refused}
 use Rattle.sstable_blocks.specs.RunReading.{hashes}
 use Rattle.sst_parts.proofs.many.get_at.Goals as goal
 

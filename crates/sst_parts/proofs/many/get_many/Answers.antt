@@ -1,6 +1,6 @@
 use Rattle.std.proofs.Common.{[], get_or, arith, ◌∙◌}
 use Rattle.std.proofs.lemmas.Result.{err_from_is_err_and}
-use Rattle.sst_parts.proofs.Needles.{get_or_any, memory_fails, one_of_many, way_done, way_fails, way_next}
+use Rattle.sst_parts.proofs.ManyReads.Needles.{get_or_any, memory_fails, one_of_many, way_done, way_fails, way_next}
 use Rattle.sstable_blocks.specs.RunReading.{hashes}
 use Rattle.sst_parts.proofs.many.get_many.Goals as goal
 

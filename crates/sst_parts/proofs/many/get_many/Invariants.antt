@@ -1,4 +1,4 @@
-use Rattle.sst_parts.proofs.Needles.{IsOnWay}
+use Rattle.sst_parts.proofs.ManyReads.Needles.{IsOnWay}
 use Rattle.sstable_blocks.specs.RunReading.{hashes}
 use Rattle.sst_parts.proofs.many.get_many.Given as goal
 

@@ -1,8 +1,8 @@
 use Rattle.std.proofs.Common.{ap}
 use Rattle.std.proofs.lemmas.Result.{err_from_is_err_and}
 use Rattle.std.specs.Option.{option_map}
-use Rattle.sst_parts.proofs.CheckedReads.{by_index, index_fails}
-use Rattle.sst_parts.proofs.Counts.{index_counted, nothing_counted}
+use Rattle.sst_parts.proofs.Reading.CheckedReads.{by_index, index_fails}
+use Rattle.sst_parts.proofs.Reading.Counts.{index_counted, nothing_counted}
 use Rattle.sst_parts.specs.Parts.{part_in}
 use Rattle.sstable_blocks.specs.RunReading.{hashes}
 use Rattle.sst_parts.proofs.part.read_by_index.Goals as goal

@@ -1,6 +1,6 @@
 use Rattle.std.proofs.lemmas.Result.{err_from_is_err_and}
-use Rattle.sst_parts.proofs.Counts.{nothing_counted}
-use Rattle.sst_parts.proofs.PartSteps.{part_counted, part_fails, part_read}
+use Rattle.sst_parts.proofs.Reading.Counts.{nothing_counted}
+use Rattle.sst_parts.proofs.Scanning.PartSteps.{part_counted, part_fails, part_read}
 use Rattle.sstable_blocks.specs.RunReading.{hashes}
 use Rattle.sst_parts.proofs.part.read_in_part.Goals as goal
 

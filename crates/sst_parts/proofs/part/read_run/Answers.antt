@@ -1,7 +1,7 @@
 use Rattle.std.proofs.Common.{ap, subst, IfSome}
 use Rattle.std.specs.Option.{option_map}
 use Rattle.sstable_blocks.specs.CheckedLaws.{by_filter}
-use Rattle.sst_parts.proofs.Counts.{nothing_counted}
+use Rattle.sst_parts.proofs.Reading.Counts.{nothing_counted}
 use Rattle.sst_parts.specs.Parts.{part_in}
 use Rattle.sstable_blocks.specs.ReadCosts.{CountsRead}
 use Rattle.sstable_blocks.specs.RunReading.{hashes}

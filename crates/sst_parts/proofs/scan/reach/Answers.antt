@@ -1,6 +1,6 @@
 use Rattle.std.proofs.Common.{arith}
 use Rattle.std.proofs.lemmas.Result.{err_from_is_err_and}
-use Rattle.sst_parts.proofs.PartEnds.{gone_by, out_refused}
+use Rattle.sst_parts.proofs.Scanning.PartEnds.{gone_by, out_refused}
 use Rattle.sstable_blocks.specs.RunReading.{hashes}
 use Rattle.sst_parts.proofs.scan.reach.Goals as goal
 

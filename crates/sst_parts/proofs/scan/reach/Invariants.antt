@@ -1,6 +1,6 @@
 use Rattle.std.proofs.Common.{length}
 use Rattle.sstable_blocks.specs.RunReading.{hashes}
-use Rattle.sst_parts.proofs.Reaching.{IsReached}
+use Rattle.sst_parts.proofs.Scanning.Reaching.{IsReached}
 use Rattle.sst_parts.proofs.scan.reach.Given as goal
 
 abbrev pub invariant-open : goal.invariant-open

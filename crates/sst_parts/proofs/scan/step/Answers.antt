@@ -1,6 +1,6 @@
 use Rattle.std.proofs.lemmas.Result.{err_from_is_err_and}
 use Rattle.sst_parts.specs.PartScans.{near_left}
-use Rattle.sst_parts.proofs.PartEnds.{out_error}
+use Rattle.sst_parts.proofs.Scanning.PartEnds.{out_error}
 use Rattle.sstable_blocks.specs.BlockReading.{seen_from}
 use Rattle.sstable_blocks.specs.RunReading.{hashes}
 use Rattle.sst_parts.proofs.scan.step.Goals as goal

@@ -1,5 +1,5 @@
 use Rattle.sstable_blocks.specs.RunReading.{hashes}
-use Rattle.sst_parts.proofs.EndScans.{back_step}
+use Rattle.sst_parts.proofs.Scanning.EndScans.{back_step}
 use Rattle.sst_parts.proofs.scan_end.take_from.Goals as goal
 
 pub returns-then-back-clause-exact : goal.returns-then-back-clause-exact

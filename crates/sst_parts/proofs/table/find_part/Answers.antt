@@ -1,4 +1,4 @@
-use Rattle.sst_parts.proofs.Places.{end_fits}
+use Rattle.sst_parts.proofs.Reading.Places.{end_fits}
 use Rattle.sst_parts.proofs.table.find_part.Goals as goal
 
 pub returns-clause-end : goal.returns-clause-end

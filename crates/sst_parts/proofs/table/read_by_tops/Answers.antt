@@ -1,5 +1,5 @@
 use Rattle.std.proofs.Common.{ℕ}
-use Rattle.sst_parts.proofs.PartSteps.{top_counted, top_none, top_read, top_uncounted}
+use Rattle.sst_parts.proofs.Scanning.PartSteps.{top_counted, top_none, top_read, top_uncounted}
 use Rattle.sstable_blocks.specs.RunReading.{hashes}
 use Rattle.sst_parts.proofs.table.read_by_tops.Goals as goal
 

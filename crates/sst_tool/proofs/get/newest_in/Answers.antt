@@ -5,7 +5,7 @@ use Rattle.sstable_blocks.specs.Blocks.{joined}
 use Rattle.sstable_blocks.specs.RunReading.{hashes}
 use Rattle.sstable_blocks.specs.Scans.{GivesFirst, reads_left}
 use Rattle.sstable_blocks.specs.Sound.{IsSound}
-use Rattle.sst_tool.proofs.Firsts.{newest}
+use Rattle.sst_tool.proofs.Scanning.Firsts.{newest}
 use Rattle.sst_tool.proofs.get.newest_in.Goals as goal
 
 pub returns : goal.returns

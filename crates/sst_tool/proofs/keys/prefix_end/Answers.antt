@@ -1,5 +1,5 @@
 use Rattle.std.proofs.Common.{◌∙◌, arith}
-use Rattle.sst_tool.proofs.Prefixes.{end_of_full, end_of_less}
+use Rattle.sst_tool.proofs.Scanning.Prefixes.{end_of_full, end_of_less}
 use Rattle.sst_tool.proofs.keys.prefix_end.Goals as goal
 
 pub returns-then-last-lt255 : goal.returns-then-last-lt255

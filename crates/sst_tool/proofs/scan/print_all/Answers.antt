@@ -2,7 +2,7 @@ use Rattle.std.proofs.Common.{◌≡◌, ◌∙◌, subst, ◌∷◌, Option, So
 use Rattle.std.specs.Option.{option_map}
 use Rattle.sst_base.specs.Entry.{Entry}
 use Rattle.sst_merge.specs.Sources.{Left, TakesFirst}
-use Rattle.sst_tool.proofs.Printed.{printed_next}
+use Rattle.sst_tool.proofs.Printing.Printed.{printed_next}
 use Rattle.sst_tool.proofs.scan.print_all.Goals as goal
 
 first-taken : (s : Left Entry) (r : Option Entry) (t : Left Entry) (e : Entry) → TakesFirst s r t → r ≡ Some e → s.list ≡ option_map (λ xs. e ∷ xs) t.list

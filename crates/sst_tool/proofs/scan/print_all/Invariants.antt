@@ -1,6 +1,6 @@
 use Rattle.std.proofs.Common.{◌≡◌, None}
 use Rattle.std.specs.Io.Buffered.{writer_contents}
-use Rattle.sst_tool.proofs.Printed.{HasPrintedFront}
+use Rattle.sst_tool.proofs.Printing.Printed.{HasPrintedFront}
 use Rattle.sst_tool.proofs.scan.print_all.Given as goal
 
 abbrev pub decreases-loop-entry : goal.decreases-loop-entry

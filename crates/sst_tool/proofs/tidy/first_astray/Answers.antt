@@ -1,6 +1,6 @@
 use Rattle.std.proofs.Common.{◌∙◌, ap, sym, arith, rules}
 use Rattle.std.specs.Prelude.{not}
-use Rattle.sst_tool.proofs.Follows.{follows, astray}
+use Rattle.sst_tool.proofs.Scanning.Follows.{follows, astray}
 use Rattle.sst_tool.proofs.tidy.first_astray.Goals as goal
 
 pub returns-then-deref-end-clause-follow : goal.returns-then-deref-end-clause-follow

@@ -1,8 +1,8 @@
 use Rattle.std.proofs.Common.{[], Some, ◌∙◌, ap}
 use Rattle.sst_merge.specs.MappedLaws.{entries_themselves}
-use Rattle.sst_examples.proofs.Levels.{IsFlushed, memory_flushed}
+use Rattle.sst_examples.proofs.Store.Levels.{IsFlushed, memory_flushed}
 use Rattle.sst_examples.proofs.store.Store.flush.Goals as goal
-use Rattle.sst_examples.proofs.Written.{zip_same}
+use Rattle.sst_examples.proofs.Stored.Written.{zip_same}
 use Rattle.sst_examples.specs.Levels.{Levels, versions}
 
 flushed : (c : goal.After-clear) → IsFlushed c.self.inside.memory.items c.self.inside.tables.items c.self.inside.next c.self.inside.snapshots.items c.clear.new.self.items c.add_table.new.tables.items

@@ -1,5 +1,5 @@
 use Rattle.std.proofs.Common.{◌∙◌, ap, ◌++◌, ◌∷◌, []}
-use Rattle.sst_examples.proofs.Written.{zip_same}
+use Rattle.sst_examples.proofs.Stored.Written.{zip_same}
 use Rattle.sst_examples.proofs.store.Store.read_numbers.Goals as goal
 use Rattle.sst_examples.specs.Levels.{Levels}
 

@@ -1,8 +1,8 @@
 use Rattle.std.proofs.Common.{◌+◌, ◌∙◌, ap, sym, arith}
 use Rattle.sst_base.specs.Entry.{Entry}
 use Rattle.sst_merge.specs.Sources.{Left}
-use Rattle.sst_examples.proofs.Listed.{each_known}
-use Rattle.sst_examples.proofs.Written.{lists_all, lists_more}
+use Rattle.sst_examples.proofs.Stored.Listed.{each_known}
+use Rattle.sst_examples.proofs.Stored.Written.{lists_all, lists_more}
 use Rattle.sst_examples.proofs.store.tables.merge_of.Goals as goal
 
 pub scan_of-requires : goal.scan_of-requires

@@ -1,5 +1,5 @@
 use Rattle.std.proofs.Common.{◌≡◌, map, take}
-use Rattle.sst_examples.proofs.Written.{lists}
+use Rattle.sst_examples.proofs.Stored.Written.{lists}
 use Rattle.sst_examples.proofs.store.tables.merge_of.Given as goal
 use Rattle.sst_examples.specs.Tables.{table_entries}
 

@@ -1,6 +1,6 @@
 use Rattle.std.proofs.Common.{◌≡◌, Some, ◌∙◌, ap, subst, ℕ, List}
 use Rattle.sst_base.specs.Bytes.{IsBytes}
-use Rattle.sst_examples.proofs.Listed.{table_opened}
+use Rattle.sst_examples.proofs.Stored.Listed.{table_opened}
 use Rattle.sst_examples.proofs.store.tables.open_table.Goals as goal
 
 some_is : (xs ys : List ℕ) → Some xs ≡ Some ys → xs ≡ ys

@@ -6,7 +6,7 @@ use Rattle.sst_merge.specs.MappedLaws.{none_entries}
 use Rattle.sst_merge.specs.TableLaws.{none_left}
 use Rattle.sst_merge.specs.Tables.{IsTableOf, entries_in}
 use Rattle.sst_merge.specs.declared.writing.Sizes.{Sizes}
-use Rattle.sst_examples.proofs.Written.{all_written}
+use Rattle.sst_examples.proofs.Stored.Written.{all_written}
 use Rattle.sst_examples.proofs.store.tables.table_of.Goals as goal
 use Rattle.sstable_blocks.specs.Run.{form}
 

@@ -4,7 +4,7 @@ use Rattle.sst_merge.specs.Picks.{IsPick}
 use Rattle.sst_merge.specs.Sources.{MayGive}
 use Rattle.sst_merge.specs.SourceLaws.{passed_merge}
 use Rattle.sst_merge.specs.Tournament.{IsTournament}
-use Rattle.sst_merge.proofs.Tournaments.{still_tournament}
+use Rattle.sst_merge.proofs.Merging.Tournaments.{still_tournament}
 use Rattle.sst_merge.proofs.merge.Merge.advance.Goals as goal
 use Rattle.std.specs.Result.{result_err}
 

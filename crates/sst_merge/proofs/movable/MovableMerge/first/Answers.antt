@@ -4,8 +4,8 @@ use Rattle.std.specs.Option.{IfSome}
 use Rattle.sst_block_core.specs.Window.{some_left}
 use Rattle.sst_merge.specs.Movable.{IsFrontPick}
 use Rattle.sst_merge.specs.Moved.{are_known, windows}
-use Rattle.sst_merge.proofs.MovableLaws.{same_source}
-use Rattle.sst_merge.proofs.MovedLaws.{many_moved, moved_at, shows_first, shows_no_first, shows_none_first}
+use Rattle.sst_merge.proofs.Moving.MovableLaws.{same_source}
+use Rattle.sst_merge.proofs.Moving.MovedLaws.{many_moved, moved_at, shows_first, shows_no_first, shows_none_first}
 use Rattle.sst_merge.proofs.movable.MovableMerge.first.Goals as goal
 
 pub returns-then-is_empty : goal.returns-then-is_empty

@@ -1,8 +1,8 @@
 use Rattle.std.proofs.Common.{Bool, None, Some, ap, map, ◌∙◌, if◌then◌else◌}
 use Rattle.sst_merge.specs.Movable.{merged_window}
 use Rattle.sst_merge.specs.Moved.{windows}
-use Rattle.sst_merge.proofs.MovableLaws.{fresh_moved, fresh_whole}
-use Rattle.sst_merge.proofs.MovedLaws.{fresh_sources}
+use Rattle.sst_merge.proofs.Moving.MovableLaws.{fresh_moved, fresh_whole}
+use Rattle.sst_merge.proofs.Moving.MovedLaws.{fresh_sources}
 use Rattle.sst_merge.proofs.movable.MovableMerge.new.Goals as goal
 
 pub invariant_of-result : goal.invariant_of-result

@@ -3,8 +3,8 @@ use Rattle.std.specs.Option.{IfSome}
 use Rattle.sst_block_core.specs.Window.{some_left}
 use Rattle.sst_merge.specs.Movable.{IsFrontPick}
 use Rattle.sst_merge.specs.Moved.{MayStop, are_known, windows}
-use Rattle.sst_merge.proofs.MovableLaws.{same_source}
-use Rattle.sst_merge.proofs.MovedLaws.{ends_first, keeps_first, keeps_lost, none_first, stops_by, takes_first}
+use Rattle.sst_merge.proofs.Moving.MovableLaws.{same_source}
+use Rattle.sst_merge.proofs.Moving.MovedLaws.{ends_first, keeps_first, keeps_lost, none_first, stops_by, takes_first}
 use Rattle.sst_merge.proofs.movable.MovableMerge.next.Goals as goal
 
 pub returns-then-is_empty-clause-step : goal.returns-then-is_empty-clause-step

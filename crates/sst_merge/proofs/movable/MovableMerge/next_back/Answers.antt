@@ -3,8 +3,8 @@ use Rattle.std.specs.Option.{IfSome}
 use Rattle.sst_block_core.specs.Window.{some_left}
 use Rattle.sst_merge.specs.Movable.{IsBackPick}
 use Rattle.sst_merge.specs.Moved.{MayStop, are_known, windows}
-use Rattle.sst_merge.proofs.MovableLaws.{same_source}
-use Rattle.sst_merge.proofs.MovedLaws.{ends_last, keeps_last, keeps_lost, none_last, stops_by, takes_last}
+use Rattle.sst_merge.proofs.Moving.MovableLaws.{same_source}
+use Rattle.sst_merge.proofs.Moving.MovedLaws.{ends_last, keeps_last, keeps_lost, none_last, stops_by, takes_last}
 use Rattle.sst_merge.proofs.movable.MovableMerge.next_back.Goals as goal
 
 pub returns-then-is_empty-clause-step : goal.returns-then-is_empty-clause-step

@@ -1,8 +1,8 @@
 use Rattle.std.proofs.Common.{map, refl, subst, sym}
 use Rattle.sst_merge.specs.Movable.{is_at_most, seek_up_to}
 use Rattle.sst_merge.specs.Moved.{MayStop, windows}
-use Rattle.sst_merge.proofs.MovableLaws.{most_apart, seeks_back, sought_back}
-use Rattle.sst_merge.proofs.MovedLaws.{lost_all, seeks_kept, seeks_merge, stops_merge}
+use Rattle.sst_merge.proofs.Moving.MovableLaws.{most_apart, seeks_back, sought_back}
+use Rattle.sst_merge.proofs.Moving.MovedLaws.{lost_all, seeks_kept, seeks_merge, stops_merge}
 use Rattle.sst_merge.proofs.movable.MovableMerge.seek_upper.Goals as goal
 
 pub invariant_of-self : goal.invariant_of-self

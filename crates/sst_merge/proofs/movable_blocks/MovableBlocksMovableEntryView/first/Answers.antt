@@ -3,7 +3,7 @@ use Rattle.sst_base.specs.Entry.{Entry}
 use Rattle.sst_block_core.specs.Window.{Window}
 use Rattle.sstable_blocks.specs.Blocks.{joined}
 use Rattle.sst_merge.specs.MovableBlocks.{HoldsFront, block_lists, front_place}
-use Rattle.sst_merge.proofs.BlockEnds.{front_item, front_none}
+use Rattle.sst_merge.proofs.Moving.BlockEnds.{front_item, front_none}
 use Rattle.sst_merge.proofs.movable_blocks.MovableBlocksMovableEntryView.first.Goals as goal
 
 pub returns-in-Some : goal.returns-in-Some

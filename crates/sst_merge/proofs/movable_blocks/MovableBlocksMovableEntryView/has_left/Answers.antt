@@ -4,7 +4,7 @@ use Rattle.std.proofs.lemmas.Bool.Decides.{nat_tests}
 use Rattle.sst_base.specs.Entry.{Entry}
 use Rattle.sst_block_core.specs.Window.{Window, some_left}
 use Rattle.sst_merge.specs.MovableBlocks.{HoldsBack, HoldsFront, back_place, block_lists, front_place}
-use Rattle.sst_merge.proofs.BlockEnds.{left_later, none_at_end, none_earlier}
+use Rattle.sst_merge.proofs.Moving.BlockEnds.{left_later, none_at_end, none_earlier}
 use Rattle.sst_merge.proofs.movable_blocks.MovableBlocksMovableEntryView.has_left.Goals as goal
 
 pub returns-then-front-back : goal.returns-then-front-back

@@ -4,7 +4,7 @@ use Rattle.sst_block_core.specs.Window.{Window}
 use Rattle.sstable_blocks.specs.Blocks.{joined}
 use Rattle.sst_merge.specs.Movable.{item_before}
 use Rattle.sst_merge.specs.MovableBlocks.{HoldsBack, back_place, block_lists}
-use Rattle.sst_merge.proofs.BlockEnds.{back_item}
+use Rattle.sst_merge.proofs.Moving.BlockEnds.{back_item}
 use Rattle.sst_merge.proofs.movable_blocks.MovableBlocksMovableEntryView.last.Goals as goal
 
 pub returns-in-Some : goal.returns-in-Some

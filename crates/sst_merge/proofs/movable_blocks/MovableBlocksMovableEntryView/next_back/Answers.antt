@@ -1,5 +1,5 @@
 use Rattle.sst_merge.specs.MovableBlocks.{block_lists}
-use Rattle.sst_merge.proofs.BlockEnds.{takes_back}
+use Rattle.sst_merge.proofs.Moving.BlockEnds.{takes_back}
 use Rattle.sst_merge.proofs.movable_blocks.MovableBlocksMovableEntryView.next_back.Goals as goal
 
 pub returns-clause-step : goal.returns-clause-step

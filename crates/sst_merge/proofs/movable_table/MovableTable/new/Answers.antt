@@ -1,6 +1,6 @@
 use Rattle.std.proofs.Common.{ap, ◌∙◌, length}
 use Rattle.sstable_blocks.specs.RunReading.{hashes}
-use Rattle.sst_merge.proofs.TableEnds.{starts_fresh, starts_kept, starts_whole}
+use Rattle.sst_merge.proofs.Moving.TableEnds.{starts_fresh, starts_kept, starts_whole}
 use Rattle.sst_merge.proofs.movable_table.MovableTable.new.Goals as goal
 
 pub invariant_of-result : goal.invariant_of-result

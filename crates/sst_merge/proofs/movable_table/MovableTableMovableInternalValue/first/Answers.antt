@@ -1,6 +1,6 @@
 use Rattle.std.proofs.Common.{◌≡◌, None, Some, slice_get}
 use Rattle.sstable_blocks.specs.RunReading.{hashes}
-use Rattle.sst_merge.proofs.TableEnds.{front_shows, front_shows_none, table_shown}
+use Rattle.sst_merge.proofs.Moving.TableEnds.{front_shows, front_shows_none, table_shown}
 use Rattle.sst_merge.proofs.movable_table.MovableTableMovableInternalValue.first.Goals as goal
 
 pub returns-in-Some : goal.returns-in-Some

@@ -1,7 +1,7 @@
 use Rattle.std.proofs.Common.{◌≡◌, Some}
 use Rattle.sstable_blocks.specs.RunReading.{hashes}
 use Rattle.sst_merge.specs.Movable.{item_before}
-use Rattle.sst_merge.proofs.TableEnds.{back_shows, table_shown}
+use Rattle.sst_merge.proofs.Moving.TableEnds.{back_shows, table_shown}
 use Rattle.sst_merge.proofs.movable_table.MovableTableMovableInternalValue.last.Goals as goal
 
 pub returns-in-Some : goal.returns-in-Some

@@ -4,7 +4,7 @@ use Rattle.sstable_blocks.specs.Blocks.{joined}
 use Rattle.sstable_blocks.specs.RunReading.{hashes}
 use Rattle.sst_merge.specs.Movable.{is_sought}
 use Rattle.sst_merge.specs.MovableBlocks.{entry_key}
-use Rattle.sst_merge.proofs.TableEnds.{kept_sought_up, unless_known, unless_none}
+use Rattle.sst_merge.proofs.Moving.TableEnds.{kept_sought_up, unless_known, unless_none}
 use Rattle.sst_merge.proofs.movable_table.MovableTableMovableInternalValue.seek_upper.Goals as goal
 
 pub invariant_of-self : goal.invariant_of-self

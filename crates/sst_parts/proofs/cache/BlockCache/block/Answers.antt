@@ -1,5 +1,5 @@
 use Rattle.std.proofs.Common.{ℕ, IfSome, subst}
-use Rattle.sst_parts.proofs.Caching.{kept_shown}
+use Rattle.sst_parts.proofs.Cached.Caching.{kept_shown}
 use Rattle.sst_parts.specs.Caches.{CacheParts, IsKept}
 use Rattle.sstable_blocks.specs.RunReading.{hashes}
 use Rattle.sst_parts.proofs.cache.BlockCache.block.Goals as goal

@@ -3,7 +3,7 @@ use Rattle.std.specs.List.{AllByRecursion}
 use Rattle.lru.specs.LruCache.{LruCache}
 use Rattle.sst_block_core.specs.DataBlock.{DataBlockParts}
 use Rattle.sst_parts.specs.Caches.{CacheParts, IsKept, Kept, fitting, is_place, kept_at, kept_bytes}
-use Rattle.sst_parts.proofs.Caching.{absent_fitting, all_fitting}
+use Rattle.sst_parts.proofs.Cached.Caching.{absent_fitting, all_fitting}
 use Rattle.sstable_blocks.specs.RunReading.{hashes}
 use Rattle.sst_parts.proofs.cache.BlockCache.keep.Goals as goal
 

@@ -2,7 +2,7 @@ use Rattle.std.proofs.Common.{◌≡◌, ℕ, refl, sym, ◌∙◌, ap, subst}
 use Rattle.std.specs.List.{AllByRecursion}
 use Rattle.lru.specs.LruCache.{LruCache}
 use Rattle.sst_block_core.specs.DataBlock.{DataBlockParts}
-use Rattle.sst_parts.proofs.Caching.{all_promoted, bytes_promoted, lookup_promoted, looked_up_found, looked_up_missed}
+use Rattle.sst_parts.proofs.Cached.Caching.{all_promoted, bytes_promoted, lookup_promoted, looked_up_found, looked_up_missed}
 use Rattle.sst_parts.specs.Caches.{CacheParts, IsKept, is_place, kept_at, kept_bytes, looked_up, one_more}
 use Rattle.sstable_blocks.specs.RunReading.{hashes}
 use Rattle.sst_parts.proofs.cache.BlockCache.look_up.Goals as goal

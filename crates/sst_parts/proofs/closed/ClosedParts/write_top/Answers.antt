@@ -3,7 +3,8 @@ use Rattle.sst_base.specs.BlockHandle.{HandleParts}
 use Rattle.sst_block_core.specs.Entries.{entries}
 use Rattle.sst_block_core.specs.Handles.{Handle, handles}
 use Rattle.sst_block_core.specs.Kind.{IsOrdered}
-use Rattle.sst_parts.proofs.Closings.{if_ok_map, parted_by, tops_ordered, tops_some}
+use Rattle.sstable_blocks.specs.SourceLaws.{if_ok_map}
+use Rattle.sst_parts.proofs.Writing.Closings.{parted_by, tops_ordered, tops_some}
 use Rattle.sst_parts.specs.PartWriting.{AppendsParted, AppendsTop, ClosedView}
 use Rattle.sstable_blocks.specs.Blocks.{joined}
 use Rattle.sstable_blocks.specs.Run.{form}

@@ -1,6 +1,6 @@
 use Rattle.std.proofs.Common.{refl, ap, None}
 use Rattle.sst_parts.specs.PartScans.{ScanEndParts}
-use Rattle.sst_parts.proofs.PartEnds.{begun_sound}
+use Rattle.sst_parts.proofs.Scanning.PartEnds.{begun_sound}
 use Rattle.sstable_blocks.specs.RunReading.{hashes}
 use Rattle.sstable_blocks.specs.Scans.{range_by}
 use Rattle.sst_parts.proofs.scan.PartedScan.new.Goals as goal

@@ -1,6 +1,6 @@
 use Rattle.std.proofs.Common.{◌≡◌, ◌<◌, ◌++◌, subst, IfSome, None}
 use Rattle.sst_parts.specs.PartScans.{parts_left, parts_read}
-use Rattle.sst_parts.proofs.PartEnds.{first_on}
+use Rattle.sst_parts.proofs.Scanning.PartEnds.{first_on}
 use Rattle.sstable_blocks.specs.RunReading.{hashes}
 use Rattle.sstable_blocks.specs.Scans.{GivesFirst}
 use Rattle.sst_parts.proofs.scan.PartedScan.next_entry.Goals as goal

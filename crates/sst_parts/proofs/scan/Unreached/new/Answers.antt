@@ -1,5 +1,5 @@
 use Rattle.std.proofs.Common.{◌≡◌, ◌+◌, min, length, arith, ap}
-use Rattle.sst_parts.proofs.Reaching.{parts_within}
+use Rattle.sst_parts.proofs.Scanning.Reaching.{parts_within}
 use Rattle.sst_parts.proofs.scan.Unreached.new.Goals as goal
 use Rattle.sst_parts.proofs.scan.Unreached.new.Goals.{then-last-len, else-last-len}
 

@@ -1,7 +1,8 @@
 use Rattle.std.proofs.Common.{◌<◌, ◌≤◌, length, sym, subst, IfSome, Err}
 use Rattle.std.proofs.lemmas.Result.{err_from_is_err_and}
 use Rattle.sst_parts.specs.PartScans.{OpensNext}
-use Rattle.sst_parts.proofs.Reaching.{next_opened, next_refused, some_between, tops_same}
+use Rattle.sst_parts.proofs.Scanning.Reaching.{next_opened, next_refused, tops_same}
+use Rattle.sstable_blocks.specs.BetweenLaws.{some_between}
 use Rattle.sstable_blocks.specs.RunReading.{hashes}
 use Rattle.sstable_blocks.specs.Scans.{between}
 use Rattle.sst_parts.proofs.scan.Unreached.open_next.Goals as goal

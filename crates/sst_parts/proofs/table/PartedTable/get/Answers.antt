@@ -1,7 +1,7 @@
 use Rattle.std.proofs.Common.{◌≡◌, ◌<◌, Ok, subst, IfSome}
 use Rattle.sst_block_core.specs.Handles.{handles}
 use Rattle.sst_parts.specs.Parts.{read_by_top, tops_at}
-use Rattle.sst_parts.proofs.Sounds.{sound_on}
+use Rattle.sst_parts.proofs.Writing.Sounds.{sound_on}
 use Rattle.sstable_blocks.specs.Lookup.{handle_for}
 use Rattle.sstable_blocks.specs.RunReading.{hashes}
 use Rattle.sstable_blocks.specs.Sources.{GivesOr}

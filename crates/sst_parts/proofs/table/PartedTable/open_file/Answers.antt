@@ -1,5 +1,5 @@
 use Rattle.std.proofs.Common.{arith}
-use Rattle.sst_parts.proofs.FileOpenings.{file_on, footer_fails_first}
+use Rattle.sst_parts.proofs.Reading.FileOpenings.{file_on, footer_fails_first}
 use Rattle.sstable_blocks.specs.RunReading.{hashes}
 use Rattle.sst_parts.proofs.table.PartedTable.open_file.Goals as goal
 

@@ -3,7 +3,7 @@ use Rattle.std.proofs.lemmas.Result.{err_from_is_err_and}
 use Rattle.sst_base.specs.Entry.{Entry}
 use Rattle.sst_block_core.specs.Entries.{entries}
 use Rattle.sst_block_core.specs.Kind.{IsOrdered}
-use Rattle.sst_parts.proofs.Blocks.{ordered_push}
+use Rattle.sst_parts.proofs.Writing.Blocks.{ordered_push}
 use Rattle.sst_parts.specs.PartWriting.{AppendsParted, EndFits, PartWriting, TopFits}
 use Rattle.sstable_blocks.specs.Blocks.{joined}
 use Rattle.sstable_blocks.specs.Run.{form}

@@ -1,6 +1,6 @@
 use Rattle.std.proofs.Common.{◌≡◌, ◌||◌, true, ap, sym, ◌∙◌, subst}
 use Rattle.sst_parts.specs.PartWriting.{PartWriting, data_len, is_full, reaches}
-use Rattle.sst_parts.proofs.Blocks.{full_by}
+use Rattle.sst_parts.proofs.Writing.Blocks.{full_by}
 use Rattle.sstable_blocks.specs.Blocks.{joined}
 use Rattle.sst_parts.proofs.writer.PartWriter.is_full.Goals as goal
 

@@ -1,5 +1,5 @@
 use Rattle.sst_tool.specs.Limits.{limited}
-use Rattle.sst_tool.proofs.Passed.{passed_no_more}
+use Rattle.sst_tool.proofs.Scanning.Passed.{passed_no_more}
 use Rattle.sst_tool.proofs.limited.LimitedSourceInternalValue.next_entry.Goals as goal
 
 pub returns-clause-no_more : goal.returns-clause-no_more

@@ -1,4 +1,4 @@
-use Rattle.sst_tool.proofs.Passed.{passed_no_more}
+use Rattle.sst_tool.proofs.Scanning.Passed.{passed_no_more}
 use Rattle.sst_tool.proofs.seen_back.SeenBackSourceInternalValue.next_entry.Goals as goal
 
 pub returns-clause-no_more : goal.returns-clause-no_more

@@ -1,8 +1,9 @@
 use Rattle.std.proofs.Common.{◌∙◌, ap, subst}
 use Rattle.std.proofs.lemmas.List.{take_all}
 use Rattle.sstable_blocks.specs.Filter.{Filter, IsFilterOf}
-use Rattle.sstable_blocks.proofs.Filters.FilterTexts.{next_inserted, filter_text, if_ok_map}
+use Rattle.sstable_blocks.proofs.Filters.FilterTexts.{next_inserted, filter_text}
 use Rattle.sstable_blocks.proofs.run.run_core.filter_of.Goals as goal
+use Rattle.sstable_blocks.specs.SourceLaws.{if_ok_map}
 
 pub loop-hash-preserved : goal.loop-hash-preserved
 loop-hash-preserved c =

@@ -1,4 +1,5 @@
-use Rattle.sstable_blocks.proofs.Scans.ScanCuts.{end_is, up_to_included, up_to_excluded, all_up_to}
+use Rattle.sstable_blocks.proofs.Scans.ScanCuts.{end_is}
+use Rattle.sstable_blocks.specs.BoundLaws.{up_to_included, up_to_excluded, all_up_to}
 use Rattle.sstable_blocks.proofs.run.bounds.Bounds.blocks_up_to.Goals as goal
 
 pub returns-in-Included-clause-value : goal.returns-in-Included-clause-value

@@ -1,4 +1,5 @@
-use Rattle.sstable_blocks.proofs.Scans.ScanCuts.{start_is, before_included, before_excluded, none_before}
+use Rattle.sstable_blocks.proofs.Scans.ScanCuts.{start_is}
+use Rattle.sstable_blocks.specs.BoundLaws.{before_included, before_excluded, none_before}
 use Rattle.sstable_blocks.proofs.run.bounds.Bounds.first_block.Goals as goal
 
 pub returns-in-Included-clause-value : goal.returns-in-Included-clause-value

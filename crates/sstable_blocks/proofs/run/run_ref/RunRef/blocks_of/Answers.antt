@@ -2,7 +2,8 @@ use Rattle.std.proofs.Common.{◌<◌, length, map, ap, ◌∙◌, arith}
 use Rattle.sst_block_core.specs.DataBlock.{DataRefParts}
 use Rattle.sstable_blocks.specs.Opened.{index_in}
 use Rattle.sstable_blocks.specs.RunBlocks.{block_of}
-use Rattle.sstable_blocks.proofs.Reading.OpenedBlocks.{one_more, there}
+use Rattle.sstable_blocks.proofs.Reading.OpenedBlocks.{one_more}
+use Rattle.sstable_blocks.specs.BetweenLaws.{item_found}
 use Rattle.sstable_blocks.proofs.run.run_ref.RunRef.blocks_of.Goals as goal
 
 pub loop-i-preserved : goal.loop-i-preserved
@@ -11,7 +12,7 @@ loop-i-preserved g c =
     let hs = index_in run.bytes run.handles.index in
     let size = ap length c.index.ensures.items in
     let inside : c.loop-i.i < length hs = omega (arith, size, c.len-count.ensures.count, c.loop-i-test.true) in
-    let h = there hs c.loop-i.i inside in
+    let h = item_found hs c.loop-i.i inside in
     record {
       inside = omega (arith, c.loop-i-test.true);
       opened = ap (map (λ (d : DataRefParts). d.items)) c.in_ok-push.ensures.items

@@ -1,0 +1,5 @@
+-- Lists of entries, as a caller lends them.
+pub mod Givens
+pub mod Places
+pub mod Listings
+pub mod BlockLists

@@ -1,0 +1,3 @@
+-- The levels of a store.
+pub mod Newer
+pub mod Levels

@@ -1,0 +1,4 @@
+-- Tables in memory, written and listed.
+pub mod Listed
+pub mod Places
+pub mod Written

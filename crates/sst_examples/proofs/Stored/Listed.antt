@@ -1,0 +1,172 @@
+-- Tables over sound runs: their entries are known, and known entries are those of a sound run.
+use Rattle.std.proofs.Common.{◌≡◌, ℕ, zero, suc, ◌<◌, ◌^◌, Bool, true, false, not, cond, List, [], ◌∷◌, length, drop, map, get_or, Option, Some, None, Result, Ok, Err, refl, sym, ap, subst, ◌∙◌, arith, length-drop}
+use Rattle.std.proofs.lemmas.Bool.{ltb-true}
+use Rattle.std.proofs.lemmas.List.{get_or-map, length-map, length-take-le}
+use Rattle.std.specs.Cmp.Derive.{both_true}
+use Rattle.std.specs.Option.{option_map, is_some, IfSome}
+use Rattle.std.specs.Prelude.{nat_lt, ◌&&◌}
+use Rattle.sst_base.specs.BlockHandle.{HandleParts}
+use Rattle.sst_base.specs.Bytes.{IsBytes}
+use Rattle.sst_base.specs.Entry.{Entry, plain}
+use Rattle.sst_base.specs.FrameLaws.{length-frame}
+use Rattle.xxh3.specs.Xxh3Laws.{xxh3_128-below}
+use Rattle.sst_base.specs.declared.error.Error.{Error}
+use Rattle.sst_base.specs.declared.error.Error.TheVariants.{BadHandle}
+use Rattle.sst_base.specs.declared.table.block.block_type.BlockType.{BlockType}
+use Rattle.sst_base.specs.declared.table.block.block_type.BlockType.TheVariants as types
+use Rattle.sst_block_core.specs.Checks.{is_in_order}
+use Rattle.sst_block_core.specs.Entries.{entries}
+use Rattle.sst_block_core.specs.Kind.{IsOrdered}
+use Rattle.sst_block_core.specs.Handles.{Handle}
+use Rattle.sst_merge.specs.Merge.{entry_cmp, merged}
+use Rattle.sstable_blocks.specs.BoundLaws.{plain_ordered}
+use Rattle.sst_merge.specs.Sources.{all_known}
+use Rattle.sst_merge.specs.Stored.{all_keys, are_bytes, check_of, checked_list, filter_fits, known_reads, table_list}
+use Rattle.sst_merge.specs.StoredLaws.{known_all}
+use Rattle.sst_examples.specs.Tables.{MemoryTable, merged_tables, table_entries, table_hashes}
+use Rattle.sstable_blocks.specs.Blocks.{joined}
+use Rattle.sstable_blocks.specs.Run.{IsFramed}
+use Rattle.sstable_blocks.specs.RunChecks.{check_run, summary_of}
+use Rattle.sstable_blocks.specs.RunReading.{Hashes, IsFramedAt, handles_at}
+use Rattle.sstable_blocks.specs.Scans.{KeyRange, blocks_read, handles_within, within}
+use Rattle.sstable_blocks.specs.Sound.{IsSound, IsStoredFilter}
+use Rattle.sstable_blocks.specs.declared.run.RunHandles.{RunHandles}
+use Rattle.sstable_blocks.specs.declared.run.checking.RunSummary.{RunSummary}
+use Rattle.sst_base.specs.TestLaws.{and_parts, lt_test, some_is}
+use Rattle.sst_merge.specs.TableReads.{bytes_by, fits_by, order_passes, within_all}
+
+bytes_pass : (bytes : List ℕ) → IsBytes bytes → are_bytes bytes ≡ true
+bytes_pass [] h = refl
+bytes_pass (b ∷ bytes) h = both_true (lt_test b 256 (h 0)) (bytes_pass bytes (λ i. h (suc i)))
+
+module _ (c : Hashes) (bytes : List ℕ) where
+  -- the frame of a payload that fits has less than 2 ^ 32 bytes
+  size_fits : (t : BlockType) (h : HandleParts) (p : List ℕ) → IsFramedAt c t bytes h p → IsFramed p → h.size < 2 ^ 32
+  size_fits t h p frame framed =
+      let inside = frame.inside in
+      let here = length-take-le h.size (drop h.offset bytes) (omega (arith, length-drop h.offset bytes, inside)) in
+      let there = ap length frame.whole in
+      let long = length-frame c.hash128 t p in
+      omega (arith, here, there, long, framed)
+
+  filter_passes : (items : List Entry) (o : Option HandleParts) → IfSome o (IsStoredFilter c bytes items) → filter_fits o ≡ true
+  filter_passes items None h = refl
+  filter_passes items (Some g) h = lt_test g.size (2 ^ 32) (size_fits types.Filter g h.payload h.frame h.framed)
+
+  module _ (h : RunHandles) where
+    tests_pass : (blocks : List (List Entry)) → IsBytes bytes → IsSound c blocks bytes h → (are_bytes bytes && (nat_lt h.index.size (2 ^ 32) && filter_fits h.filter)) ≡ true
+    tests_pass blocks are sound =
+        both_true (bytes_pass bytes are)
+        (both_true (lt_test h.index.size (2 ^ 32) (size_fits types.Index h.index sound.index.payload sound.index.frame sound.index.framed))
+        (filter_passes (joined blocks) h.filter sound.filter))
+
+    module _ (index : List Handle) where
+      -- what a scan of the table reads
+      abbrev scan_read : Option (List Entry)
+      scan_read = known_reads (blocks_read c bytes all_keys (handles_within all_keys index))
+
+      -- a table that was opened over a sound run has the entries of its blocks, as decoded
+      pub sound_listed : (blocks : List (List Entry)) (s : RunSummary) → IsBytes bytes → IsSound c blocks bytes h → check_run c bytes h ≡ Ok s
+          → blocks_read c bytes all_keys (handles_within all_keys index) ≡ map Ok (within all_keys (map plain (joined blocks)))
+          → table_list c (Some bytes) h index ≡ Some (map plain (joined blocks))
+      sound_listed blocks s are sound accepted read =
+          let xs : List Entry = map plain (joined blocks) in
+          let known : scan_read ≡ Some xs = ap known_reads read ∙ known_all (within all_keys xs) ∙ ap Some (within_all xs) in
+          let checked : check_of c bytes h ≡ Ok s = ap (λ t. cond t (check_run c bytes h) (Err BadHandle)) (tests_pass blocks are sound) ∙ accepted in
+          ap (λ r. checked_list r scan_read) checked ∙ ap (checked_list (Ok s)) known ∙ ap (λ t. cond t (Some xs) None) (order_passes xs (plain_ordered (joined blocks) sound.ordered))
+
+      -- entries that are known are those of a sound run
+      pub record IsKnownRun (xs : List Entry) : Type 0 where
+        pub blocks : List (List Entry)
+        pub sound : IsSound c blocks bytes h
+        pub is : xs ≡ map plain (joined blocks)
+
+      cond_some : (t : Bool) (xs ys : List Entry) → cond t (Some xs) None ≡ Some ys → xs ≡ ys
+      cond_some true xs ys e = cc
+      cond_some false xs ys e = absurd (cc)
+
+      cond_ok : (t : Bool) (r : Result RunSummary Error) (s : RunSummary) → cond t r (Err BadHandle) ≡ Ok s → (t ≡ true) × (r ≡ Ok s)
+      cond_ok true r s e = (refl, e)
+      cond_ok false r s e = absurd (cc)
+
+      pub record IsChecked (r : Result RunSummary Error) (o : Option (List Entry)) (xs : List Entry) : Type 0 where
+        pub summary : RunSummary
+        pub accepted : r ≡ Ok summary
+        pub read : o ≡ Some xs
+
+      checked_by : (r : Result RunSummary Error) (o : Option (List Entry)) (xs : List Entry) → checked_list r o ≡ Some xs → IsChecked r o xs
+      checked_by (Err e) o xs h = absurd (cc)
+      checked_by (Ok s) None xs h = absurd (cc)
+      checked_by (Ok s) (Some ys) xs h = record { summary = s; accepted = refl; read = ap Some (cond_some (is_in_order entry_cmp ys) ys xs h) }
+
+      pub listed_sound : (xs : List Entry)
+          → ((s : RunSummary) → IsBytes bytes → h.index.size < 2 ^ 32 → IfSome h.filter (λ g. g.size < 2 ^ 32) → check_run c bytes h ≡ Ok s → (blocks : List (List Entry)) × IsSound c blocks bytes h)
+          → ((blocks : List (List Entry)) → IsSound c blocks bytes h → blocks_read c bytes all_keys (handles_within all_keys index) ≡ map Ok (within all_keys (map plain (joined blocks))))
+          → table_list c (Some bytes) h index ≡ Some xs → IsKnownRun xs
+      listed_sound xs accepts scanned e =
+          let k = checked_by (check_of c bytes h) scan_read xs e in
+          let l = cond_ok (are_bytes bytes && (nat_lt h.index.size (2 ^ 32) && filter_fits h.filter)) (check_run c bytes h) k.summary k.accepted in
+          let t = and_parts (are_bytes bytes) (nat_lt h.index.size (2 ^ 32) && filter_fits h.filter) l.0 in
+          let u = and_parts (nat_lt h.index.size (2 ^ 32)) (filter_fits h.filter) t.1 in
+          let run = accepts k.summary (bytes_by bytes t.0) (ltb-true h.index.size (2 ^ 32) u.0) (fits_by h.filter u.1) l.1 in
+          let ys : List Entry = map plain (joined run.0) in
+          record {
+            blocks = run.0;
+            sound = run.1;
+            is = some_is xs ys (sym k.read ∙ ap known_reads (scanned run.0 run.1) ∙ known_all (within all_keys ys) ∙ ap Some (within_all ys));
+          }
+
+-- entries of a list that is known
+pub some_known : {X : Type 0} (o : Option X) → is_some o ≡ true → (x : X) × (o ≡ Some x)
+some_known None h = absurd (cc)
+some_known (Some x) h = (x, refl)
+
+-- the sound run of a table whose entries are known
+pub record IsTableRun (t : MemoryTable) : Type 0 where
+  pub blocks : List (List Entry)
+  pub sound : IsSound table_hashes blocks t.source.inner t.handles
+  pub is : table_entries t ≡ Some (map plain (joined blocks))
+
+module _ (t : MemoryTable) (at : handles_at table_hashes t.source.inner t.handles.index ≡ Ok t.index) where
+  pub table_run : is_some (table_entries t) ≡ true
+      → ((c : Hashes) (bytes : List ℕ) (h : RunHandles) (s : RunSummary) → IsBytes bytes → h.index.size < 2 ^ 32 → IfSome h.filter (λ g. g.size < 2 ^ 32) → check_run c bytes h ≡ Ok s → (blocks : List (List Entry)) × IsSound c blocks bytes h × (s ≡ summary_of blocks))
+      → ((c : Hashes) (blocks : List (List Entry)) (bytes : List ℕ) (h : RunHandles) (r : KeyRange) (hs : List Handle) → ((xs : List ℕ) → c.hash128 xs < 2 ^ 128) → IsSound c blocks bytes h → handles_at c bytes h.index ≡ Ok hs → blocks_read c bytes r (handles_within r hs) ≡ map Ok (within r (map plain (joined blocks))))
+      → IsTableRun t
+  unfolding table_entries
+  table_run some accepts scanned =
+      let known = some_known (table_entries t) some in
+      let run = listed_sound table_hashes t.source.inner t.handles t.index known.0
+      (λ s are index filter e. (let k = accepts table_hashes t.source.inner t.handles s are index filter e in (k.0, k.1)))
+      (λ blocks sound. scanned table_hashes blocks t.source.inner t.handles all_keys t.index xxh3_128-below sound at) known.1 in
+      record { blocks = run.blocks; sound = run.sound; is = known.1 ∙ ap Some run.is }
+
+  -- a table that was opened over a sound run
+  pub table_opened : (bytes : List ℕ) (h : RunHandles) (blocks : List (List Entry))
+      → ((c : Hashes) (blocks : List (List Entry)) (bytes : List ℕ) (h : RunHandles) (index : List Handle) → ((xs : List ℕ) → c.hash128 xs < 2 ^ 128) → IsBytes bytes → IsSound c blocks bytes h → handles_at c bytes h.index ≡ Ok index → table_list c (Some bytes) h index ≡ Some (map plain (joined blocks)))
+      → IsBytes bytes → IsSound table_hashes blocks bytes h → t.source.inner ≡ bytes → t.handles ≡ h → table_entries t ≡ Some (map plain (joined blocks))
+  unfolding table_entries
+  table_opened bytes h blocks law are sound same_bytes same_handles =
+      law table_hashes blocks t.source.inner t.handles t.index xxh3_128-below (subst IsBytes (sym same_bytes) are)
+      (subst (λ bs. IsSound table_hashes blocks bs t.handles) (sym same_bytes) (subst (IsSound table_hashes blocks bytes) (sym same_handles) sound)) at
+
+module _ {X : Type 0} where
+  some_rest : (x : X) (o : Option (List X)) → is_some (option_map (λ rest. x ∷ rest) o) ≡ true → is_some o ≡ true
+  some_rest x None h = h
+  some_rest x (Some xs) h = refl
+
+  known_each : (os : List (Option X)) (i : ℕ) (d : Option X) → is_some (all_known os) ≡ true → i < length os → is_some (get_or os i d) ≡ true
+  known_each [] i d h inside = absurd (omega arith)
+  known_each (None ∷ os) i d h inside = absurd (cc)
+  known_each (Some x ∷ os) zero d h inside = refl
+  known_each (Some x ∷ os) (suc i) d h inside = known_each os i d (some_rest x (all_known os) h) (omega arith)
+
+some_mapped : {X Y : Type 0} (f : X → Y) (o : Option X) → is_some (option_map f o) ≡ true → is_some o ≡ true
+some_mapped f None h = h
+some_mapped f (Some x) h = refl
+
+-- where the merge of tables is known, the entries of each are
+pub each_known : (tables : List MemoryTable) (i : ℕ) (t : MemoryTable) → is_some (merged_tables tables) ≡ true → i < length tables → t ≡ get_or tables i t → is_some (table_entries t) ≡ true
+each_known tables i t h inside is =
+    let n = length-map tables table_entries in
+    let some : is_some (all_known (map table_entries tables)) ≡ true = some_mapped (merged entry_cmp) (all_known (map table_entries tables)) h in
+    ap (λ u. is_some (table_entries u)) is ∙ ap is_some (sym (get_or-map table_entries tables i t (table_entries t) inside)) ∙ known_each (map table_entries tables) i (table_entries t) some (omega (arith, n, inside))

@@ -1,0 +1,3 @@
+-- Reads through a cache of blocks.
+pub mod CachedReads
+pub mod Caching

@@ -1,0 +1,3 @@
+-- Reads of many keys.
+pub mod Needles
+pub mod Rising

@@ -1,0 +1,6 @@
+-- What scans of tables give, and where they end.
+pub mod Firsts
+pub mod Follows
+pub mod Limits
+pub mod Prefixes
+pub mod Passed
