@@ -1,8 +1,7 @@
 -- How many frames a call asks for, by the bytes: those up to the first error.
-use Rattle.std.specs.Prelude.{ℕ, ◌+◌, nat_eq, if◌then◌else◌, List, [], ◌∷◌, Option, Result, Ok, Err}
+use Rattle.std.specs.Prelude.{ℕ, ◌+◌, if◌then◌else◌, List, Option}
 use Rattle.sst_base.specs.BlockHandle.{HandleParts}
 use Rattle.sst_base.specs.Counted.{found_item}
-use Rattle.sst_base.specs.declared.error.Error.{Error}
 use Rattle.sst_block_core.specs.Handles.{Handle, handles}
 use Rattle.sstable_blocks.specs.Filter.{Filter}
 use Rattle.sstable_blocks.specs.Footer.{table_handles}
@@ -11,22 +10,14 @@ use Rattle.sstable_blocks.specs.RunChecks.{check_block, filter_in_run, none_pass
 use Rattle.sstable_blocks.specs.RunReading.{Hashes, filter_says, handles_at}
 use Rattle.sstable_blocks.specs.Sources.{filter_frames}
 use Rattle.sstable_blocks.specs.Tables.{filter_kept}
+use Rattle.sstable_blocks.specs.Walks.{frames_after, place_frames, walk_frames}
 use Rattle.sstable_blocks.specs.declared.run.RunHandles.{RunHandles}
 use Rattle.sstable_blocks.specs.declared.run.checking.Passed.{Passed}
 
--- how many frames are asked for after a reading: none where it fails
-abbrev pub frames_after : {X : Type 0} → Result X Error → (X → ℕ) → ℕ
-frames_after (Ok x) frames = frames x
-frames_after (Err e) frames = 0
-
--- the frame of a block, unless it is not where the block before ends
-abbrev pub place_frames : Passed → Handle → ℕ
-place_frames s h = if nat_eq h.offset s.offset then 1 else 0
-
--- the frames of the blocks of handles, up to the first that is refused
+-- the frames of the blocks of handles, up to the first that is refused: one a block, unless it does not begin where the
+-- block before ends
 abbrev pub blocks_frames : Hashes → List ℕ → Option Filter → Passed → List Handle → ℕ
-blocks_frames c bytes f s [] = 0
-blocks_frames c bytes f s (h ∷ hs) = place_frames s h + frames_after (check_block c bytes f s h) (λ t. blocks_frames c bytes f t hs)
+blocks_frames c bytes f s hs = walk_frames (check_block c bytes f) (λ t h. place_frames t.offset h) s hs
 
 -- the frame of the index, then those of its blocks
 abbrev pub frames_by_index : Hashes → List ℕ → Option Filter → HandleParts → ℕ

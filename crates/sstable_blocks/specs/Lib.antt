@@ -15,6 +15,8 @@ pub mod RunReading
 pub mod Sources
 pub mod SourceLaws
 pub mod Sound
+pub mod Walks
+pub mod WalkLaws
 pub mod RunChecks
 pub mod FrameCounts
 pub mod Footer
@@ -32,6 +34,8 @@ pub mod OpeningLaws
 pub mod TableEndLaws
 pub mod IndexStepLaws
 pub mod CheckedLaws
+pub mod FollowLaws
+pub mod SummaryLaws
 pub mod PointLaws
 pub mod FooterLaws
 pub mod MeaningLaws

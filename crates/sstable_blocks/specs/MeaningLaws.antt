@@ -1,5 +1,5 @@
 -- What a result of a checked read on any bytes means.
-use Rattle.std.proofs.Common.{◌≡◌, ℕ, ◌+◌, inl, inr, Bool, true, false, eqb, leb, List, length, take, drop, sym, ◌∙◌, ap, subst, if◌then◌else◌, Option, Some, None, Result, Ok}
+use Rattle.std.proofs.Common.{◌≡◌, ℕ, ◌+◌, ◌-◌, inl, inr, Bool, true, false, eqb, leb, List, length, take, drop, sym, ◌∙◌, ap, subst, if◌then◌else◌, Option, Some, None, Result, Ok}
 use Rattle.std.proofs.lemmas.Bool.{leb-true, eqb-true}
 use Rattle.sst_base.specs.BlockHandle.{HandleParts}
 use Rattle.sst_base.specs.BlockType.{block_type_byte, block_type_of}
@@ -19,7 +19,8 @@ use Rattle.sst_block_core.specs.Trailer.{trailer_in}
 use Rattle.sst_block_core.specs.Window.{first_match}
 use Rattle.sstable_blocks.specs.Filter.{Filter, filter_at, may_contain}
 use Rattle.sstable_blocks.specs.Lookup.{handle_for}
-use Rattle.sstable_blocks.specs.Opened.{range_of}
+use Rattle.sstable_blocks.specs.Opened.{payload_in, range_of}
+use Rattle.sstable_blocks.specs.OpeningLaws.{frame_range}
 use Rattle.sstable_blocks.specs.RunReading.{Hashes, range_at, payload_at, filter_answer, filter_says, read_block, read_blocks, read_checked, IsFramedAt, FilterDenies, FilterAllows, BlockMeans, IndexMeans, AnswerMeans}
 use Rattle.sstable_blocks.specs.declared.run.RunHandles.{RunHandles}
 use Rattle.sstable_blocks.specs.CheckedLaws.{may_contain_to, may_contain_from}
@@ -45,6 +46,11 @@ payload_at_takes c t bytes h p small e =
     let part = guard_ok (leb (h.offset + h.size) (length bytes)) (take h.size (drop h.offset bytes)) found.0 _ found.1 in
     let bytes_in : IsBytes found.0 = subst IsBytes part.1 (IsBytes-take h.size (drop h.offset bytes) (IsBytes-drop h.offset bytes small)) in
     record { inside = leb-true _ _ part.0; whole = part.1 ∙ payload_of_type_takes c.hash128 t found.0 p bytes_in found.2 }
+
+-- the payload of a frame is bytes
+pub framed_bytes : (c : Hashes) (t : BlockType) (bytes p : List ℕ) (h : HandleParts) → IsBytes bytes → IsFramedAt c t bytes h p → IsBytes p
+unfolding payload_in
+framed_bytes c t bytes p h small s = subst IsBytes (frame_range c t bytes p h s).1 (IsBytes-take (h.size - 33) (drop (h.offset + 33) bytes) (IsBytes-drop (h.offset + 33) bytes small))
 
 -- what a filter says
 abbrev Says : Hashes → List ℕ → Option HandleParts → List ℕ → Bool → Type 0

@@ -16,6 +16,7 @@ use Rattle.sstable_blocks.specs.Filter.{Filter, filter_at, may_contain}
 use Rattle.sstable_blocks.specs.Opened.{range_of}
 use Rattle.sstable_blocks.specs.Run.{end_key_of}
 use Rattle.sstable_blocks.specs.RunReading.{Hashes, payload_at, block_items_at, handles_at}
+use Rattle.sstable_blocks.specs.Walks.{walked}
 use Rattle.sstable_blocks.specs.declared.run.RunHandles.{RunHandles}
 use Rattle.sstable_blocks.specs.declared.run.checking.Passed.{Passed}
 use Rattle.sstable_blocks.specs.declared.run.checking.RunSummary.{RunSummary}
@@ -46,10 +47,10 @@ check_entries hash64 f h ends range [] = if ends then Ok range else Err BadHandl
 check_entries hash64 f h ends range (x ∷ xs) =
     if allows hash64 f x then check_entries hash64 f h (is_end h x) (min range.0 x.key.seqno, max range.1 x.key.seqno) xs else Err BadFilter
 
--- the first key of a run: that of its first block's first entry
-abbrev pub first_after : Option Handle → List ℕ → List Entry → List ℕ
+-- the key and the sequence number of a run's first entry, which is that of its first block
+abbrev pub first_after : Option Handle → List ℕ × ℕ → List Entry → List ℕ × ℕ
 first_after None first [] = first
-first_after None first (x ∷ xs) = x.key.user_key
+first_after None first (x ∷ xs) = (x.key.user_key, x.key.seqno)
 first_after (Some h) first items = first
 
 -- what is known after a block more
@@ -58,7 +59,7 @@ passed_on s h items range = record {
   offset = s.offset + h.size;
   last = Some h;
   entries = min (s.entries + length items) (2 ^ 64 - 1);
-  first_key = first_after s.last s.first_key items;
+  first = first_after s.last s.first items;
   least = range.0;
   greatest = range.1;
 }
@@ -79,27 +80,26 @@ check_block c bytes f s h = do
 
 -- the blocks of handles, one after the other
 abbrev pub check_from : Hashes → List ℕ → Option Filter → Passed → List Handle → Result Passed Error
-check_from c bytes f s [] = Ok s
-check_from c bytes f s (h ∷ hs) = do
-  t ← check_block c bytes f s h
-  check_from c bytes f t hs
+check_from c bytes f s hs = walked (check_block c bytes f) s hs
 
 -- before the first block
 abbrev pub none_passed : Passed
-none_passed = record { offset = 0; last = None; entries = 0; first_key = []; least = 2 ^ 64 - 1; greatest = 0 }
+none_passed = record { offset = 0; last = None; entries = 0; first = ([], 0); least = 2 ^ 64 - 1; greatest = 0 }
 
--- the end key of the last block, if there is one
-abbrev pub end_key_or : Option Handle → List ℕ → List ℕ
-end_key_or None key = key
-end_key_or (Some h) key = h.end_key
+-- the key and the sequence number at the end of the last block, if there is one
+abbrev pub end_or : Option Handle → List ℕ × ℕ → List ℕ × ℕ
+end_or None place = place
+end_or (Some h) place = (h.end_key, h.seqno)
 
 -- the summary of blocks that passed
 abbrev pub summary_by : ℕ → Passed → RunSummary
 summary_by n s = record {
   blocks = n;
   entries = s.entries;
-  first_key = s.first_key;
-  last_key = end_key_or s.last s.first_key;
+  first_key = s.first.0;
+  first_seqno = s.first.1;
+  last_key = (end_or s.last s.first).0;
+  last_seqno = (end_or s.last s.first).1;
   least_seqno = s.least;
   greatest_seqno = s.greatest;
 }
@@ -125,10 +125,13 @@ check_run c bytes h = do
   f ← filter_in_run c bytes h.filter
   check_by_index c bytes f h.index
 
--- the key of the first entry
-abbrev pub first_key : List Entry → List ℕ
-first_key [] = []
-first_key (x ∷ xs) = x.key.user_key
+-- the key and the sequence number of the first entry, and of the last one
+abbrev pub first_of : List Entry → List ℕ × ℕ
+first_of [] = ([], 0)
+first_of (x ∷ xs) = (x.key.user_key, x.key.seqno)
+
+abbrev pub last_of : List Entry → List ℕ × ℕ
+last_of xs = ((end_key_of xs).user_key, (end_key_of xs).seqno)
 
 -- the least of a number and the sequence numbers of entries, and the greatest
 abbrev pub least_from : ℕ → List Entry → ℕ
@@ -144,8 +147,10 @@ abbrev pub summary_of : List (List Entry) → RunSummary
 summary_of blocks = record {
   blocks = length blocks;
   entries = min (length (joined blocks)) (2 ^ 64 - 1);
-  first_key = first_key (joined blocks);
-  last_key = (end_key_of (joined blocks)).user_key;
+  first_key = (first_of (joined blocks)).0;
+  first_seqno = (first_of (joined blocks)).1;
+  last_key = (last_of (joined blocks)).0;
+  last_seqno = (last_of (joined blocks)).1;
   least_seqno = least_from (2 ^ 64 - 1) (joined blocks);
   greatest_seqno = greatest_from 0 (joined blocks);
 }

@@ -1,28 +1,17 @@
 -- The check of a whole run accepts exactly the sound ones.
-use Rattle.std.proofs.Common.{◌≡◌, ◌≢◌, ℕ, ◌+◌, ◌-◌, ◌<◌, ◌≤◌, ◌^◌, min, max, Bool, true, false, not, eqb, List, [], ◌∷◌, ◌++◌, length, map, drop, refl, arith, sym, ◌∙◌, ap, subst, Option, Some, None, IfSome, Result, Ok, Err, append_assoc, if◌then◌else◌}
-use Rattle.std.proofs.lemmas.Bool.{eqb-true, eq-eqb, and_parts, and_from}
+use Rattle.std.proofs.Common.{◌≡◌, ℕ, ◌+◌, ◌-◌, ◌<◌, ◌≤◌, ◌^◌, min, max, Bool, true, false, eqb, List, [], ◌∷◌, ◌++◌, length, map, refl, arith, sym, ◌∙◌, ap, subst, Option, Some, None, IfSome, Result, Ok, Err, if◌then◌else◌}
+use Rattle.std.proofs.lemmas.Bool.{eqb-true, eq-eqb}
 use Rattle.std.proofs.lemmas.List.{length-map}
-use Rattle.std.specs.Cmp.Lexicographic.{slice_cmp}
-use Rattle.std.specs.Cmp.{Equal-is}
 use Rattle.std.specs.List.{AllZip, AllByRecursion}
-use Rattle.std.specs.Ordering.{nat_cmp, ordering_then, is_eq, is_lt}
-use Rattle.std.specs.declared.cmp.Ordering.{Ordering}
-use Rattle.std.specs.declared.cmp.Ordering.TheVariants.{Less, Equal, Greater}
 use Rattle.sst_base.specs.BlockHandle.{HandleParts}
 use Rattle.sst_base.specs.Bytes.{IsBytes}
-use Rattle.sst_base.specs.BytesLaws.{IsBytes-take, IsBytes-drop}
 use Rattle.sst_base.specs.Entry.{Entry, IsEntry, plain}
-use Rattle.sst_base.specs.Frame.{demand}
-use Rattle.sst_base.specs.Header.{◌>>=◌}
 use Rattle.sst_base.specs.HeaderLaws.{bind_ok, guard_ok}
-use Rattle.sst_base.specs.KeyOrderLaws.{slice_cmp-equal}
-use Rattle.sst_base.specs.Order.{IsInOrder}
 use Rattle.sst_base.specs.declared.error.Error.{Error}
 use Rattle.sst_base.specs.declared.error.Error.TheVariants.{BadHandle, BadFilter, OutOfOrder}
-use Rattle.sst_base.specs.declared.table.block.block_type.BlockType.{BlockType}
 use Rattle.sst_base.specs.declared.table.block.block_type.BlockType.TheVariants as types
 use Rattle.sst_block_core.specs.Entries.{entries}
-use Rattle.sst_block_core.specs.Kind.{IsOrdered, item_cmp}
+use Rattle.sst_block_core.specs.Kind.{IsOrdered}
 use Rattle.sst_block_core.specs.Payload.{IsBlock}
 use Rattle.sst_block_core.specs.Stages.{Passes, items_in}
 use Rattle.sst_block_core.specs.Trailer.{trailer_in}
@@ -31,60 +20,24 @@ use Rattle.sst_block_core.specs.Handles.{Handle, handles, IsHandle, IsIndexBlock
 use Rattle.sstable_blocks.specs.Blocks.{joined}
 use Rattle.sstable_blocks.specs.Filter.{Filter, filter_at, MayContain}
 use Rattle.sstable_blocks.specs.Lookup.{IsEnd}
-use Rattle.sstable_blocks.specs.Opened.{range_of, payload_in}
+use Rattle.sstable_blocks.specs.Opened.{range_of}
 use Rattle.sstable_blocks.specs.RunChecks.{end_cmp, starts_after, is_end, allows, check_entries, first_after, passed_on, check_items, check_block, check_from, none_passed, summary_by, filter_in_run, check_run, least_from, greatest_from, summary_of}
-use Rattle.sstable_blocks.specs.RunReading.{Hashes, IsFramedAt, payload_at, block_items_at, handles_at}
+use Rattle.sstable_blocks.specs.RunReading.{Hashes, payload_at, block_items_at, handles_at}
 use Rattle.sstable_blocks.specs.Sound.{IsStoredBlock, IsStoredFilter, AreContiguous, IsSound}
 use Rattle.sstable_blocks.specs.declared.run.RunHandles.{RunHandles}
 use Rattle.sstable_blocks.specs.declared.run.checking.Passed.{Passed}
 use Rattle.sstable_blocks.specs.declared.run.checking.RunSummary.{RunSummary}
 use Rattle.sstable_blocks.specs.CheckedLaws.{may_contain_to, may_contain_from}
-use Rattle.sstable_blocks.specs.MeaningLaws.{payload_at_takes}
-use Rattle.sstable_blocks.specs.OpeningLaws.{framed_size, frame_range, stored_ends, stored_count}
+use Rattle.sstable_blocks.specs.FollowLaws.{FollowsEnd, demand_ok, demand_to, end_same, follows_none, lt_not, not_lt, ordered_cut, ordered_join, same_end}
+use Rattle.sstable_blocks.specs.MeaningLaws.{framed_bytes, payload_at_takes}
+use Rattle.sstable_blocks.specs.OpeningLaws.{framed_size, stored_ends, stored_count}
 use Rattle.sstable_blocks.proofs.Checks.RunSummaries.{passed_block, passed_all, summary_all}
 use Rattle.sstable_blocks.specs.SoundReadLaws.{bind_to, data_ok, index_ok, framed_is_read}
-use Rattle.sstable_blocks.specs.EndLaws.{back_in_order, tail_in_order}
 
--- what a test that went on says
-demand_ok : {A : Type 0} (b : Bool) (e : Error) (k : Unit {0} → Result A Error) (y : A) → (demand b e >>= k) ≡ Ok y → (b ≡ true) × (k tt ≡ Ok y)
-demand_ok true e k y h = (refl, h)
-demand_ok false e k y h = cc
-
-demand_to : {A : Type 0} (b : Bool) (e : Error) (k : Unit {0} → Result A Error) (y : A) → b ≡ true → k tt ≡ Ok y → (demand b e >>= k) ≡ Ok y
-demand_to true e k y b h = h
-demand_to false e k y b h = cc
-
+-- what a choice that went on says
 if_ok : {A : Type 0} (b : Bool) (r : Result A Error) (e : Error) (y : A) → (if b then r else Err e) ≡ Ok y → (b ≡ true) × (r ≡ Ok y)
 if_ok true r e y h = (refl, h)
 if_ok false r e y h = cc
-
-not_lt : (o : Ordering) → not (is_lt o) ≡ true → o ≢ Less
-not_lt Less h = cc
-not_lt Equal h = λ e. cc
-not_lt Greater h = λ e. cc
-
-lt_not : (o : Ordering) → o ≢ Less → not (is_lt o) ≡ true
-lt_not Less h = absurd (h refl)
-lt_not Equal h = refl
-lt_not Greater h = refl
-
--- two ordered lists that meet in an item, as one
-order_join : {X : Type 0} (cmp : X → X → Ordering) (front : List X) (last : X) (rest : List X) → IsInOrder cmp (front ++ last ∷ []) → IsInOrder cmp (last ∷ rest) → IsInOrder cmp (front ++ last ∷ rest)
-order_join cmp [] last rest h k = k
-order_join cmp (x ∷ []) last rest h k = (h.0, k)
-order_join cmp (x ∷ y ∷ front) last rest h k = (h.0, order_join cmp (y ∷ front) last rest h.1 k)
-
--- the entry at which a block ends
-end_same : (h : Handle) (x : Entry) → is_end h x ≡ true → (h.end_key ≡ x.key.user_key) × (h.seqno ≡ x.key.seqno)
-end_same h x e =
-    let both = and_parts (eqb x.key.seqno h.seqno) (is_eq (slice_cmp nat_cmp x.key.user_key h.end_key)) e in
-    (sym ((slice_cmp-equal x.key.user_key h.end_key).0 ((Equal-is (slice_cmp nat_cmp x.key.user_key h.end_key)).0 both.1)), sym (eqb-true x.key.seqno h.seqno both.0))
-
-same_end : (h : Handle) (x : Entry) → h.end_key ≡ x.key.user_key → h.seqno ≡ x.key.seqno → is_end h x ≡ true
-same_end h x key seqno =
-    and_from (eqb x.key.seqno h.seqno) (is_eq (slice_cmp nat_cmp x.key.user_key h.end_key))
-    (eq-eqb x.key.seqno h.seqno (sym seqno))
-    ((Equal-is (slice_cmp nat_cmp x.key.user_key h.end_key)).1 ((slice_cmp-equal x.key.user_key h.end_key).1 (sym key)))
 
 -- the last of entries is that of a handle; where there is none, as before
 abbrev ends_from : Handle → Bool → List Entry → Bool
@@ -93,7 +46,7 @@ ends_from h before (x ∷ xs) = ends_from h (is_end h x) xs
 
 end_from : (h : Handle) (xs : List Entry) → ends_from h false xs ≡ true → IsEnd entries handles xs h
 end_from h [] e = cc
-end_from h (x ∷ []) e = let s = end_same h x e in record { front = []; last = x; whole = refl; key = s.0; seqno = s.1 }
+end_from h (x ∷ []) e = let s = end_same h x.key.user_key x.key.seqno e in record { front = []; last = x; whole = refl; key = s.0; seqno = s.1 }
 end_from h (x ∷ y ∷ ys) e =
     let r = end_from h (y ∷ ys) e in
     record { front = x ∷ r.front; last = r.last; whole = ap (λ zs. x ∷ zs) r.whole; key = r.key; seqno = r.seqno }
@@ -103,7 +56,7 @@ ends_last h b [] last = refl
 ends_last h b (x ∷ xs) last = ends_last h (is_end h x) xs last
 
 end_to : (h : Handle) (xs : List Entry) → IsEnd entries handles xs h → ends_from h false xs ≡ true
-end_to h xs i = ap (ends_from h false) i.whole ∙ ends_last h false i.front i.last ∙ same_end h i.last i.key i.seqno
+end_to h xs i = ap (ends_from h false) i.whole ∙ ends_last h false i.front i.last ∙ same_end h i.last.key.user_key i.last.key.seqno i.key i.seqno
 
 -- a filter, if there is one, has the bits of each entry's key
 abbrev Contains : (List ℕ → ℕ) → Option Filter → List Entry → Type 0
@@ -144,8 +97,8 @@ entries_to hash f h ends range (x ∷ xs) rest c e =
     ap (λ b. if b then check_entries hash f h (is_end h x) (min range.0 x.key.seqno, max range.1 x.key.seqno) (map plain xs) else Err BadFilter) s.0
     ∙ entries_to hash f h (is_end h x) (min range.0 x.key.seqno, max range.1 x.key.seqno) xs rest s.1 e
 
--- the first key does not depend on values
-first_plain : (o : Option Handle) (first : List ℕ) (xs : List Entry) → first_after o first (map plain xs) ≡ first_after o first xs
+-- the first entry's key and number do not depend on values
+first_plain : (o : Option Handle) (first : List ℕ × ℕ) (xs : List Entry) → first_after o first (map plain xs) ≡ first_after o first xs
 first_plain None first [] = refl
 first_plain None first (x ∷ xs) = refl
 first_plain (Some h) first xs = refl
@@ -155,53 +108,21 @@ passed_plain s h xs range i = record {
   offset = s.offset + h.size;
   last = Some h;
   entries = min (s.entries + length-map xs plain i) (2 ^ 64 - 1);
-  first_key = first_plain s.last s.first_key xs i;
+  first = first_plain s.last s.first xs i;
   least = range.0;
   greatest = range.1;
 }
 
--- no item sorts before the last one of the block before, if there is one
-abbrev FollowsLast : Option Handle → List Entry → Type 0
-FollowsLast None xs = Unit {0}
-FollowsLast (Some h) [] = Unit {0}
-FollowsLast (Some h) (x ∷ xs) = end_cmp h x ≢ Less
-
-follows_from : (o : Option Handle) (xs rest : List Entry) → 1 ≤ length xs → starts_after o xs ≡ true → FollowsLast o (xs ++ rest)
+-- the first entry of a block follows the end of the block before
+follows_from : (o : Option Handle) (xs rest : List Entry) → 1 ≤ length xs → starts_after o xs ≡ true → FollowsEnd o (xs ++ rest)
 follows_from None xs rest some e = tt
 follows_from (Some h) [] rest some e = absurd (omega arith)
 follows_from (Some h) (x ∷ xs) rest some e = not_lt (end_cmp h x) e
 
-follows_to : (o : Option Handle) (xs rest : List Entry) → FollowsLast o (xs ++ rest) → starts_after o (map plain xs) ≡ true
+follows_to : (o : Option Handle) (xs rest : List Entry) → FollowsEnd o (xs ++ rest) → starts_after o (map plain xs) ≡ true
 follows_to None xs rest c = refl
 follows_to (Some h) [] rest c = refl
 follows_to (Some h) (x ∷ xs) rest c = lt_not (end_cmp h x) c
-
--- a handle compares as the last entry of its block
-end_cmp-last : (block : List Entry) (h : Handle) (i : IsEnd entries handles block h) (x : Entry) → end_cmp h x ≡ item_cmp entries x i.last
-end_cmp-last block h i x =
-    ap (λ k. ordering_then (slice_cmp nat_cmp x.key.user_key k) (nat_cmp h.seqno x.key.seqno)) i.key
-    ∙ ap (λ n. ordering_then (slice_cmp nat_cmp x.key.user_key i.last.key.user_key) (nat_cmp n x.key.seqno)) i.seqno
-
-after_last : (block : List Entry) (h : Handle) (i : IsEnd entries handles block h) (rest : List Entry) → FollowsLast (Some h) rest → IsOrdered entries rest → IsOrdered entries (i.last ∷ rest)
-after_last block h i [] c o = tt
-after_last block h i (y ∷ ys) c o = ((λ less. c (end_cmp-last block h i y ∙ less)), o)
-
-whole_rest : (block : List Entry) (h : Handle) (i : IsEnd entries handles block h) (rest : List Entry) → block ++ rest ≡ i.front ++ i.last ∷ rest
-whole_rest block h i rest = ap (λ xs. xs ++ rest) i.whole ∙ append_assoc i.front (i.last ∷ []) rest
-
-ordered_join : (block : List Entry) (h : Handle) (i : IsEnd entries handles block h) (rest : List Entry) → IsOrdered entries block → FollowsLast (Some h) rest → IsOrdered entries rest → IsOrdered entries (block ++ rest)
-ordered_join block h i rest a c b =
-    subst (IsOrdered entries) (sym (whole_rest block h i rest))
-    (order_join (item_cmp entries) i.front i.last rest (subst (IsOrdered entries) i.whole a) (after_last block h i rest c b))
-
-follows_last : (block : List Entry) (h : Handle) (i : IsEnd entries handles block h) (rest : List Entry) → IsOrdered entries (i.last ∷ rest) → FollowsLast (Some h) rest
-follows_last block h i [] o = tt
-follows_last block h i (y ∷ ys) o = λ less. o.0 (sym (end_cmp-last block h i y) ∙ less)
-
--- the payload of a frame is bytes
-framed_bytes : (c : Hashes) (t : BlockType) (bytes p : List ℕ) (h : HandleParts) → IsBytes bytes → IsFramedAt c t bytes h p → IsBytes p
-unfolding payload_in
-framed_bytes c t bytes p h small s = subst IsBytes (frame_range c t bytes p h s).1 (IsBytes-take (h.size - 33) (drop (h.offset + 33) bytes) (IsBytes-drop (h.offset + 33) bytes small))
 
 -- what is accepted is sound
 module _ (c : Hashes) (bytes : List ℕ) (small : IsBytes bytes)
@@ -213,18 +134,16 @@ module _ (c : Hashes) (bytes : List ℕ) (small : IsBytes bytes)
       blocks : List (List Entry)
       stored : AllZip (IsStoredBlock c bytes) blocks hs
       contiguous : AreContiguous s.offset hs
-      follows : FollowsLast s.last (joined blocks)
+      follows : FollowsEnd s.last (joined blocks)
       ordered : IsOrdered entries (joined blocks)
       contained : Contains c.hash64 f (joined blocks)
       passed : passed_all s hs blocks ≡ t
 
-    holds_none : (f : Option Filter) (s t : Passed) (o : Option Handle) → s.last ≡ o → s ≡ t → Holds f s t []
-    holds_none f s t None e same = record { blocks = []; stored = tt; contiguous = tt; follows = subst (λ (o : Option Handle). FollowsLast o []) (sym e) tt; ordered = tt; contained = contains_none c.hash64 f; passed = same }
-    holds_none f s t (Some g) e same = record { blocks = []; stored = tt; contiguous = tt; follows = subst (λ (o : Option Handle). FollowsLast o []) (sym e) tt; ordered = tt; contained = contains_none c.hash64 f; passed = same }
-
     holds : (f : Option Filter) (s t : Passed) (hs : List Handle) → check_from c bytes f s hs ≡ Ok t → Holds f s t hs
     unfolding check_block
-    holds f s t [] e = holds_none f s t s.last refl (let k : ◌≡◌ {A = Result Passed Error} (Ok s) (Ok t) = e in cc)
+    holds f s t [] e =
+        let same : s ≡ t = (let k : ◌≡◌ {A = Result Passed Error} (Ok s) (Ok t) = e in cc) in
+        record { blocks = []; stored = tt; contiguous = tt; follows = follows_none s.last; ordered = tt; contained = contains_none c.hash64 f; passed = same }
     holds f s t (h ∷ hs) e =
         let one = bind_ok (check_block c bytes f s h) (λ u. check_from c bytes f u hs) t e in
         let is : check_block c bytes f s h ≡ Ok one.0 = one.1 in
@@ -245,7 +164,7 @@ module _ (c : Hashes) (bytes : List ℕ) (small : IsBytes bytes)
           stored = (record { payload = p.0; frame = frame; interval = block.0; buckets = block.1; is_block = block.2; end = i }, rest.stored);
           contiguous = (eqb-true h.offset s.offset at.0, subst (λ (u : Passed). AreContiguous u.offset hs) (sym also) rest.contiguous);
           follows = follows_from s.last items.0 (joined rest.blocks) block.2.encoding.some order.0;
-          ordered = ordered_join items.0 h i (joined rest.blocks) block.2.ordered (subst (λ (u : Passed). FollowsLast u.last (joined rest.blocks)) (sym also) rest.follows) rest.ordered;
+          ordered = ordered_join items.0 h i (joined rest.blocks) block.2.ordered (subst (λ (u : Passed). FollowsEnd u.last (joined rest.blocks)) (sym also) rest.follows) rest.ordered;
           contained = through.0;
           passed = ap (λ (u : Passed). passed_all u hs rest.blocks) also ∙ rest.passed;
         }
@@ -306,7 +225,7 @@ module _ (c : Hashes) (sums : (bytes : List ℕ) → c.hash128 bytes < 2 ^ 128)
         (framed_is_read c types.Data bytes p (range_of h) sums short b.frame, data_ok c.hash64 (trailer_in p) p (data_check c.hash64 p) (data_verdict p) read.0 ∙ ap (λ xs. Ok xs) read.1)
 
     passes_on : (f : Option Filter) (s : Passed) (blocks : List (List Entry)) (hs : List Handle) → AllByRecursion IsHandle hs → AllZip (IsStoredBlock c bytes) blocks hs → AreContiguous s.offset hs
-        → FollowsLast s.last (joined blocks) → IsOrdered entries (joined blocks) → Contains c.hash64 f (joined blocks) → check_from c bytes f s hs ≡ Ok (passed_all s hs blocks)
+        → FollowsEnd s.last (joined blocks) → IsOrdered entries (joined blocks) → Contains c.hash64 f (joined blocks) → check_from c bytes f s hs ≡ Ok (passed_all s hs blocks)
     unfolding check_block
     passes_on f s [] [] valid stored at follows order contained = refl
     passes_on f s [] (h ∷ hs) valid stored at follows order contained = absurd stored
@@ -315,9 +234,9 @@ module _ (c : Hashes) (sums : (bytes : List ℕ) → c.hash128 bytes < 2 ^ 128)
         let k = stored.0 in
         let i = k.end in
         let read = block_passes h b valid.0 k in
-        let after = back_in_order (item_cmp entries) i.front (i.last ∷ joined bs) (subst (IsOrdered entries) (whole_rest b h i (joined bs)) order) in
+        let after = ordered_cut b h i (joined bs) order in
         let t = passed_block s h b in
-        let rest = passes_on f t bs hs valid.1 stored.1 at.1 (follows_last b h i (joined bs) after) (tail_in_order (item_cmp entries) i.last (joined bs) after) (contains_back c.hash64 f b (joined bs) contained) in
+        let rest = passes_on f t bs hs valid.1 stored.1 at.1 after.0 after.1 (contains_back c.hash64 f b (joined bs) contained) in
         let through = entries_to c.hash64 f h false (s.least, s.greatest) b (joined bs) contained (end_to h b i) in
         let now : Ok (passed_on s h (map plain b) (least_from s.least b, greatest_from s.greatest b)) ≡ Ok t = ap (λ u. Ok u) (passed_plain s h b (least_from s.least b, greatest_from s.greatest b)) in
         let items : check_items c.hash64 f s h (map plain b) ≡ Ok t =
@@ -333,9 +252,6 @@ module _ (c : Hashes) (sums : (bytes : List ℕ) → c.hash128 bytes < 2 ^ 128)
     filter_read (Some h) items stored =
         let framed = stored.framed in
         (Some stored.filter, bind_to _ _ stored.payload (Ok (Some stored.filter)) (framed_is_read c types.Filter bytes stored.payload h sums (omega arith) stored.frame) (bind_to _ _ stored.filter (Ok (Some stored.filter)) stored.reads refl), stored.contains)
-
-    follows_none : (items : List Entry) → FollowsLast None items
-    follows_none items = tt
 
     pub sound_is_accepted : (blocks : List (List Entry)) (h : RunHandles) → IsSound c blocks bytes h → check_run c bytes h ≡ Ok (summary_of blocks)
     unfolding check_run
@@ -354,4 +270,4 @@ module _ (c : Hashes) (sums : (bytes : List ℕ) → c.hash128 bytes < 2 ^ 128)
         bind_to (filter_in_run c bytes h.filter) _ f.0 (Ok (summary_of blocks)) f.1
         (bind_to (handles_at c bytes h.index) _ s.handles (Ok (summary_of blocks))
         (bind_to _ index_check q (Ok s.handles) (framed_is_read c types.Index bytes q h.index sums short i.frame) (index_ok (trailer_in q) q (index_check q) (index_verdict q) passes ∙ ap (λ xs. Ok xs) read.1))
-        (bind_to _ _ (passed_all none_passed s.handles blocks) (Ok (summary_of blocks)) (passes_on f.0 none_passed blocks s.handles valid s.stored s.contiguous (follows_none (joined blocks)) s.ordered f.2) sum))
+        (bind_to _ _ (passed_all none_passed s.handles blocks) (Ok (summary_of blocks)) (passes_on f.0 none_passed blocks s.handles valid s.stored s.contiguous tt s.ordered f.2) sum))

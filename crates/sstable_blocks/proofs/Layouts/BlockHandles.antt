@@ -1,5 +1,5 @@
 -- The handles of a run's blocks: as many as blocks, ordered, and within their limits.
-use Rattle.std.proofs.Common.{◌≡◌, ℕ, suc, ◌+◌, ◌<◌, ◌≤◌, ◌^◌, List, [], ◌∷◌, ◌++◌, length, refl, arith, sym, ap, subst, length-append}
+use Rattle.std.proofs.Common.{◌≡◌, ℕ, suc, ◌+◌, ◌<◌, ◌≤◌, ◌^◌, List, [], ◌∷◌, length, refl, arith, sym, ap, subst, length-append}
 use Rattle.std.specs.List.{AllZip, AllByRecursion}
 use Rattle.sst_base.specs.Key.{Key}
 use Rattle.sst_base.specs.Entry.{Entry, IsEntry}
@@ -10,16 +10,9 @@ use Rattle.sst_block_core.specs.Entries.{entries}
 use Rattle.sst_block_core.specs.Handles.{IsHandle, handles, EndFits}
 use Rattle.sstable_blocks.specs.Blocks.{joined, IsNotEmpty}
 use Rattle.sstable_blocks.specs.Lookup.{IsEnd}
-use Rattle.sstable_blocks.specs.Run.{Form, block_payload, block_frame, block_frames, end_key_of, handles_from, IsFramed, IsRun}
+use Rattle.sstable_blocks.specs.Run.{Form, block_payload, block_frame, block_frames, handles_from, IsFramed, IsRun}
 use Rattle.sstable_blocks.specs.EndLaws.{ends_in_order, all_front, all_back}
-
--- the last entry of a block
-pub end_parts : (block : List Entry) → IsNotEmpty block → (front : List Entry) × (last : Entry) × (block ≡ front ++ last ∷ []) × (end_key_of block ≡ last.key)
-end_parts [] h = absurd (omega arith)
-end_parts (x ∷ []) h = ([], x, refl, refl)
-end_parts (x ∷ y ∷ ys) h =
-    let r = end_parts (y ∷ ys) (omega arith) in
-    (x ∷ r.0, r.1, ap (λ xs. x ∷ xs) r.2, r.3)
+use Rattle.sstable_blocks.specs.SummaryLaws.{end_parts}
 
 module _ (f : Form) where
   -- each handle has the key and the sequence number of the last entry of its block

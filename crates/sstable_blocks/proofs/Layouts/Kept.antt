@@ -21,11 +21,11 @@ use Rattle.sst_base.specs.declared.error.Error.TheVariants.{TooLong}
 use Rattle.sst_base.specs.declared.table.block.block_type.BlockType.TheVariants.{Data}
 use Rattle.std.proofs.SliceLists.{all_by_recursion_push}
 use Rattle.sst_block_core.specs.Encoders.{IsRefusal}
-use Rattle.sstable_blocks.proofs.Layouts.BlockHandles.{end_parts}
 use Rattle.sstable_blocks.specs.EndLaws.{back_in_order}
 use Rattle.sstable_blocks.specs.Writing.{Follows, IsKept, FollowsLast, FrameFits, IsFramedBlock, IsWriteRefusal}
 use Rattle.sst_block_core.specs.ListLaws.{all_append}
 use Rattle.sstable_blocks.specs.RunLaws.{joined_push}
+use Rattle.sstable_blocks.specs.SummaryLaws.{end_of-append, end_of-push, end_parts}
 
 -- the last entry's key is the end key
 pub end_of-last : (b : List Entry) (x : Entry) → 1 ≤ length b → x ≡ get_or b (length b - 1) x → end_key_of b ≡ x.key
@@ -65,16 +65,6 @@ follows_behind blocks [] first s follows = cc
 follows_behind blocks (x ∷ xs) first s follows =
     let same : x ≡ first = cc in
     subst (FollowsLast blocks) same (behind_last (joined blocks) x xs (subst (IsOrdered entries) (joined_push blocks (x ∷ xs)) follows.ordered))
-
--- the last key of two lists is that of the second, if that is not empty
-end_of-append : (xs ys : List Entry) → 1 ≤ length ys → end_key_of (xs ++ ys) ≡ end_key_of ys
-end_of-append [] ys h = refl
-end_of-append (x ∷ []) [] h = absurd (omega arith)
-end_of-append (x ∷ []) (y ∷ ys) h = refl
-end_of-append (x ∷ z ∷ xs) ys h = end_of-append (z ∷ xs) ys h
-
-end_of-push : (front : List Entry) (last : Entry) → end_key_of (front ++ last ∷ []) ≡ last.key
-end_of-push front last = end_of-append front (last ∷ []) (omega arith)
 
 pub joined_some : (blocks : List (List Entry)) → 1 ≤ length blocks → AllByRecursion IsNotEmpty blocks → 1 ≤ length (joined blocks)
 joined_some [] n h = n

@@ -1,5 +1,5 @@
 -- How many frames are asked for in stages.
-use Rattle.std.proofs.Common.{◌≡◌, ◌≢◌, ℕ, ◌+◌, ◌<◌, ◌≤◌, inl, inr, List, [], ◌∷◌, Option, Some, None, IfSome, Result, Ok, Err, refl, sym, ap, subst, ◌∙◌, arith, Bool, true, false, cond}
+use Rattle.std.proofs.Common.{◌≡◌, ◌≢◌, ℕ, ◌+◌, ◌<◌, ◌≤◌, inl, inr, List, Option, Some, None, IfSome, Result, Ok, Err, refl, sym, ap, subst, ◌∙◌, arith, Bool, true, false, cond}
 use Rattle.sst_base.specs.declared.error.Error.{Error}
 use Rattle.sst_base.specs.declared.error.Error.TheVariants.{BadHandle, Memory}
 use Rattle.sst_base.specs.BlockHandle.{HandleParts}
@@ -12,14 +12,14 @@ use Rattle.sst_block_core.specs.Handles.{Handle, handles}
 use Rattle.sstable_blocks.specs.Lookup.{handle_for}
 use Rattle.sstable_blocks.specs.Opened.{range_of}
 use Rattle.sstable_blocks.specs.Filter.{Filter, filter_at}
-use Rattle.sstable_blocks.specs.FrameCounts.{blocks_frames, check_frames, frames_after, frames_by_index, frames_to, place_frames}
-use Rattle.sstable_blocks.specs.RunChecks.{check_block, filter_in_run, none_passed}
+use Rattle.sstable_blocks.specs.FrameCounts.{check_frames, frames_by_index, frames_to}
+use Rattle.sstable_blocks.specs.RunChecks.{filter_in_run}
 use Rattle.sstable_blocks.specs.RunReading.{Hashes, handles_at, payload_at}
 use Rattle.sstable_blocks.specs.SourceLaws.{source_fails}
 use Rattle.sstable_blocks.specs.Sources.{AsksFor, FailsAs, filter_frames}
 use Rattle.sstable_blocks.specs.declared.run.RunHandles.{RunHandles}
-use Rattle.sstable_blocks.specs.declared.run.checking.Passed.{Passed}
 use Rattle.sstable_blocks.specs.BoundLaws.{found_by}
+use Rattle.sstable_blocks.specs.Walks.{frames_after}
 
 -- a stage that fails is the last
 asks_stop : {Z : Type 0} (f f' a a' n : ℕ) (R : Type 0) (e : Error) (read : Result Z Error) (rest : Z → ℕ) → a' ≡ a + n → FailsAs (f < f') R read e
@@ -90,47 +90,6 @@ whole (Some all) f f' a a' n P asked = (asked.0, λ same _. asked.1 same tt)
 pub exactly : (b : Option (List ℕ)) (f f' a a' n : ℕ) (P : Type 0) → a' ≡ a + n → IfSome b (λ all. AsksFor f f' a a' P n)
 exactly None f f' a a' n P asked = tt
 exactly (Some all) f f' a a' n P asked = (omega (arith, asked), λ _ _. asked)
-
--- Blocks that are checked one after the other.
-module _ (c : Hashes) (f : Option Filter) (items : List Handle) where
-  -- after some blocks, so many frames were asked for in all, from this many on
-  abbrev pub IsOnWay : Option (List ℕ) → Passed → List Handle → ℕ → ℕ → Type 0
-  IsOnWay b s left first now = IfSome b (λ all. blocks_frames c all f s left + now ≡ blocks_frames c all f none_passed items + first)
-
-  -- a block that passes
-  pub way_on : (b b' : Option (List ℕ)) (s t : Passed) (h : Handle) (left rest : List Handle) (first now next : ℕ) → b' ≡ b → left ≡ h ∷ rest → next ≡ now + place_frames s h
-      → IfSome b' (λ all. check_block c all f s h ≡ Ok t) → IsOnWay b s left first now → IsOnWay b t rest first next
-  way_on None b' s t h left rest first now next same is asked exact way = tt
-  way_on (Some all) b' s t h left rest first now next same is asked exact way =
-      let ok : check_block c all f s h ≡ Ok t = subst (λ o. IfSome o (λ all. check_block c all f s h ≡ Ok t)) same exact in
-      let one : blocks_frames c all f s left ≡ place_frames s h + blocks_frames c all f t rest =
-      ap (blocks_frames c all f s) is ∙ ap (λ r. place_frames s h + frames_after r (λ u. blocks_frames c all f u rest)) ok in
-      omega (arith, one, asked, way)
-
-  -- a block that is refused is the last
-  pub way_ends : (b b' : Option (List ℕ)) (s : Passed) (h : Handle) (left rest : List Handle) (first now next g g' g'' : ℕ) (R : Type 0) (e : Error) → b' ≡ b → left ≡ h ∷ rest
-      → next ≡ now + place_frames s h → g ≤ g' → g' ≤ g'' → IfSome b' (λ all. FailsAs (g' < g'') R (check_block c all f s h) e) → IsOnWay b s left first now
-      → IfSome b (λ all. AsksFor g g'' first next (e ≢ Memory) (blocks_frames c all f none_passed items))
-  way_ends None b' s h left rest first now next g g' g'' R e same is asked grow grow' exact way = tt
-  way_ends (Some all) b' s h left rest first now next g g' g'' R e same is asked grow grow' exact way =
-      let fails : FailsAs (g' < g'') R (check_block c all f s h) e = subst (λ o. IfSome o (λ all. FailsAs (g' < g'') R (check_block c all f s h) e)) same exact in
-      let one : blocks_frames c all f s left ≡ place_frames s h + frames_after (check_block c all f s h) (λ u. blocks_frames c all f u rest) = ap (blocks_frames c all f s) is in (
-        omega (arith, one, asked, way),
-        λ whole other. elim (fails other) [
-          | inl failure ↦ absurd (let less = failure.0 in omega (arith, less, whole, grow))
-          | inr refused ↦
-              let none : frames_after (check_block c all f s h) (λ u. blocks_frames c all f u rest) ≡ 0 = ap (λ r. frames_after r (λ u. blocks_frames c all f u rest)) refused in
-              omega (arith, one, asked, way, none)
-        ],
-      )
-
-  -- where none is left, all were asked for
-  pub way_done : (b : Option (List ℕ)) (s : Passed) (left : List Handle) (first now g g' : ℕ) (P : Type 0) → left ≡ [] → IsOnWay b s left first now
-      → IfSome b (λ all. AsksFor g g' first now P (blocks_frames c all f none_passed items))
-  way_done None s left first now g g' P none way = tt
-  way_done (Some all) s left first now g g' P none way =
-      let zero : blocks_frames c all f s left ≡ 0 = ap (blocks_frames c all f s) none in
-      (omega (arith, zero, way), λ _ _. omega (arith, zero, way))
 
 -- The frames of a check, by its filter.
 module _ (c : Hashes) (h : RunHandles) (f f' a a' : ℕ) where

@@ -11,9 +11,10 @@ ghost use Rattle.sstable_blocks.specs.RunChecks.{check_by_index as index_checked
 ghost use Rattle.sstable_blocks.specs.RunChecks.{check_run as run_checked, summary_by, summary_of};
 ghost use Rattle.sstable_blocks.specs.RunReading.{hashes};
 ghost use Rattle.sstable_blocks.specs.Sound.{ForSound, IsSummary};
-ghost use Rattle.sstable_blocks.specs.FrameCounts.{blocks_frames, check_frames, frames_by_index, place_frames};
+ghost use Rattle.sstable_blocks.specs.FrameCounts.{blocks_frames, check_frames, frames_by_index};
 ghost use Rattle.sstable_blocks.specs.Sources.{AsksAs, AsksExactly, AsksIfOk, GivesOr, ReadsAs};
 ghost use Rattle.sstable_blocks.specs.Sources.{UsesSource, filter_frames};
+ghost use Rattle.sstable_blocks.specs.Walks.{place_frames};
 
 use super::RunHandles;
 use super::checked::{block_from, data_block_from, index_block_from};
@@ -35,8 +36,12 @@ pub struct RunSummary {
     pub entries: u64,
     /// The user key of the first entry.
     pub first_key: UserKey,
+    /// The sequence number of the first entry.
+    pub first_seqno: SeqNo,
     /// The user key of the last entry.
     pub last_key: UserKey,
+    /// The sequence number of the last entry.
+    pub last_seqno: SeqNo,
     /// The least sequence number.
     pub least_seqno: SeqNo,
     /// The greatest sequence number.
@@ -44,13 +49,13 @@ pub struct RunSummary {
 }
 
 // What a check knows after some blocks: where the next frame begins, the handle of the last block,
-// and what is counted.
+// and what is counted; of the first entry the key and the sequence number.
 #[derive(Drop)]
 struct Passed {
     offset: u64,
     last: Option<KeyedBlockHandle>,
     entries: u64,
-    first_key: UserKey,
+    first: (UserKey, SeqNo),
     least: SeqNo,
     greatest: SeqNo,
 }
@@ -64,7 +69,7 @@ impl Passed {
             offset: 0,
             last: None,
             entries: 0,
-            first_key: Slice::empty(alloc),
+            first: (Slice::empty(alloc), 0),
             least: SeqNo::MAX,
             greatest: 0,
         }
@@ -75,15 +80,18 @@ impl Passed {
         ensures ok { IfOk result (λ s. s ≡ summary_by blocks self) }
         ensures memory { IsOkUnless result Error.Memory }
     {
-        let last_key = match &self.last {
-            None => self.first_key.clone()?,
-            Some(last) => last.end_key().clone()?,
+        let (first_key, first_seqno) = self.first;
+        let (last_key, last_seqno) = match &self.last {
+            None => (first_key.clone()?, first_seqno),
+            Some(last) => (last.end_key().clone()?, last.seqno()),
         };
         Ok(RunSummary {
             blocks,
             entries: self.entries,
-            first_key: self.first_key,
+            first_key,
+            first_seqno,
             last_key,
+            last_seqno,
             least_seqno: self.least,
             greatest_seqno: self.greatest,
         })
@@ -161,14 +169,14 @@ fn check_entries<H: BlockHash>(
     }
 }
 
-// The first key of a run, after a block more.
-fn first_key_with<H: BlockHash>(
+// The key and the sequence number of a run's first entry, after a block more.
+fn first_with<H: BlockHash>(
     alloc: Global,
     last: &Option<KeyedBlockHandle>,
-    first: UserKey,
+    first: (UserKey, SeqNo),
     block: &DataBlock<H>,
-) -> Result<UserKey>
-    ensures ok { IfOk result (λ key. key ≡ first_after last.now first block.now.items) }
+) -> Result<(UserKey, SeqNo)>
+    ensures ok { IfOk result (λ place. place ≡ first_after last.now first block.now.items) }
     ensures memory { IsOkUnless result Error.Memory }
 {
     if last.is_some() {
@@ -176,7 +184,7 @@ fn first_key_with<H: BlockHash>(
     }
     match block.entries().next() {
         None => Ok(first),
-        Some(entry) => Ok(entry.to_user_key(alloc)?),
+        Some(entry) => Ok((entry.to_user_key(alloc)?, entry.seqno())),
     }
 }
 
@@ -197,7 +205,7 @@ fn check_items<H: BlockHash>(
         offset,
         last,
         entries,
-        first_key,
+        first,
         least,
         greatest,
     } = passed;
@@ -205,12 +213,12 @@ fn check_items<H: BlockHash>(
         return Err(Error::OutOfOrder);
     }
     let range = check_entries::<H>(alloc, filter, &handle, (least, greatest), block)?;
-    let first_key = first_key_with::<H>(alloc, &last, first_key, block)?;
+    let first = first_with::<H>(alloc, &last, first, block)?;
     Ok(Passed {
         offset: offset + u64::from(handle.size()),
         last: Some(handle),
         entries: entries.saturating_add(block.len() as u64),
-        first_key,
+        first,
         least: range.0,
         greatest: range.1,
     })
@@ -227,8 +235,8 @@ fn check_block<H: BlockHash, S: FrameSource>(
 ) -> Result<Passed>
     requires { handle.offset + handle.size < 2 ^ 64 }
     ensures source { UsesSource S.bytes S.failures S.reads S.is_reliable
-        (AsksExactly (place_frames passed handle)) source.old source.new result }
-    ensures placed { OnOk result (place_frames passed handle ≡ 1) }
+        (AsksExactly (place_frames passed.offset handle)) source.old source.new result }
+    ensures placed { OnOk result (place_frames passed.offset handle ≡ 1) }
     ensures exact { ReadsAs S.bytes S.failures S.is_reliable source.old source.new (λ s. s) result
         (λ all. block_checked (hashes H.hash64 H.hash128) all filter.now passed handle) }
 {
@@ -323,8 +331,8 @@ fn note_size(filter: &Option<BlockHandle>)
 /// across blocks; each handle of the index has the key and the sequence number of its block's last
 /// entry; and the filter, if there is one, may contain each key.
 ///
-/// Returns the numbers of blocks and of entries, the first and the last key, and the least and the
-/// greatest sequence number.
+/// Returns the numbers of blocks and of entries, the keys and the sequence numbers of the first and
+/// the last entry, and the least and the greatest sequence number.
 ///
 /// # Errors
 ///

@@ -2,9 +2,10 @@ use Rattle.std.proofs.Common.{◌∙◌, sym, ap, subst, arith, List, length}
 use Rattle.std.proofs.lemmas.Result.{err_from_is_err_and}
 use Rattle.std.specs.List.{AllByRecursion}
 use Rattle.sst_block_core.specs.Handles.{Handle, EndFits}
+use Rattle.sstable_blocks.specs.RunChecks.{check_block, none_passed}
 use Rattle.sstable_blocks.specs.RunReading.{hashes}
-use Rattle.sstable_blocks.proofs.Checks.RunCheckSteps.{handle_left, none_left, blocks_on, blocks_fail, blocks_end}
-use Rattle.sstable_blocks.proofs.Reading.FrameCounts.{way_done, way_ends, way_on}
+use Rattle.sstable_blocks.specs.WalkLaws.{frames_done, frames_end, frames_on, handle_left, none_left, walk_done, walk_fails, walk_on}
+use Rattle.sstable_blocks.specs.Walks.{place_frames}
 use Rattle.sstable_blocks.proofs.run.checking.check_blocks.Goals as goal
 
 pub check_block-requires : goal.check_block-requires
@@ -15,10 +16,11 @@ check_block-requires g c =
 
 pub returns-in_err-passed-clause-exact : goal.returns-in_err-passed-clause-exact
 returns-in_err-passed-clause-exact g c =
+    let h = hashes g.H.BlockHash.hash64 g.H.BlockHash.hash128 in
     let i = c.loop-item.invariant in
     let left = handle_left _ _ _ _ c.in_ok-handle.handle c.in-Some.ensures.steps (i.payload ∙ sym c.as_slice-payload.ensures.value) c.in_ok-handle.ensures.ok in
     let r = err_from_is_err_and c.from_residual-in_err-passed.result c.from_residual-in_err-passed.ensures.1 in
-    rw (r.1, r.2) (blocks_fail (hashes g.H.BlockHash.hash64 g.H.BlockHash.hash128) c.args.filter.now c.args.index.now.items _ _ c.loop-item.passed _ _ c.in_ok-handle.handle _ _ _ _ _ i.source.same i.known left (λ less. omega (arith, less, i.source.failures_grow)) i.source.kept c.in_err-passed.ensures.exact)
+    rw (r.1, r.2) (walk_fails (λ all. check_block h all c.args.filter.now) none_passed c.args.index.now.items _ _ c.loop-item.passed _ _ c.in_ok-handle.handle _ _ _ _ _ i.source.same i.known left (λ less. omega (arith, less, i.source.failures_grow)) i.source.kept c.in_err-passed.ensures.exact)
 
 pub loop-item-preserved : goal.loop-item-preserved
 loop-item-preserved g c =
@@ -37,8 +39,8 @@ loop-item-preserved g c =
       };
       reads = omega (arith, count, i.reads, e.source.asks, e.placed);
       grow = omega (arith, i.grow, e.source.asks);
-      asked = way_on h c.args.filter.now c.args.index.now.items _ _ c.loop-item.passed _ c.in_ok-handle.handle _ _ _ _ _ i.source.same left e.source.asks e.exact i.asked;
-      known = blocks_on (hashes g.H.BlockHash.hash64 g.H.BlockHash.hash128) c.args.filter.now c.args.index.now.items _ _ c.loop-item.passed _ _ _ c.in_ok-handle.handle i.source.same i.known left e.exact;
+      asked = frames_on (λ all. check_block h all c.args.filter.now) none_passed c.args.index.now.items (λ s k. place_frames s.offset k) _ _ c.loop-item.passed _ c.in_ok-handle.handle _ _ _ _ _ i.source.same left e.source.asks e.exact i.asked;
+      known = walk_on (λ all. check_block h all c.args.filter.now) none_passed c.args.index.now.items _ _ c.loop-item.passed _ _ _ c.in_ok-handle.handle i.source.same i.known left e.exact;
     }
 
 pub returns-clause-source : goal.returns-clause-source
@@ -55,16 +57,17 @@ returns-clause-source g c =
 
 pub returns-in_err-passed-clause-asked : goal.returns-in_err-passed-clause-asked
 returns-in_err-passed-clause-asked g c =
+    let h = hashes g.H.BlockHash.hash64 g.H.BlockHash.hash128 in
     let i = c.loop-item.invariant in
     let e = c.in_err-passed.ensures in
     let left = handle_left _ _ _ _ c.in_ok-handle.handle c.in-Some.ensures.steps (i.payload ∙ sym c.as_slice-payload.ensures.value) c.in_ok-handle.ensures.ok in
     let r = err_from_is_err_and c.from_residual-in_err-passed.result c.from_residual-in_err-passed.ensures.1 in
-    rw (r.1, r.2) (way_ends (hashes g.H.BlockHash.hash64 g.H.BlockHash.hash128) c.args.filter.now c.args.index.now.items _ _ c.loop-item.passed c.in_ok-handle.handle _ _ _ _ _ _ _ _ _ _ i.source.same left e.source.asks i.source.failures_grow e.source.failures_grow e.exact i.asked)
+    rw (r.1, r.2) (frames_end (λ all. check_block h all c.args.filter.now) none_passed c.args.index.now.items (λ s k. place_frames s.offset k) _ _ c.loop-item.passed c.in_ok-handle.handle _ _ _ _ _ _ _ _ _ _ i.source.same left e.source.asks i.source.failures_grow e.source.failures_grow e.exact i.asked)
 
 pub returns-clause-asked : goal.returns-clause-asked
 returns-clause-asked g c =
-    way_done (hashes g.H.BlockHash.hash64 g.H.BlockHash.hash128) c.args.filter.now c.args.index.now.items _ c.loop-item.passed _ _ _ _ _ _ (none_left _ _ c.in-None.ensures.steps) c.loop-item.invariant.asked
+    frames_done (λ all. check_block (hashes g.H.BlockHash.hash64 g.H.BlockHash.hash128) all c.args.filter.now) none_passed c.args.index.now.items (λ s k. place_frames s.offset k) _ c.loop-item.passed _ _ _ _ _ _ (none_left _ _ c.in-None.ensures.steps) c.loop-item.invariant.asked
 
 pub returns-clause-exact : goal.returns-clause-exact
 returns-clause-exact g c =
-    blocks_end (hashes g.H.BlockHash.hash64 g.H.BlockHash.hash128) c.args.filter.now c.args.index.now.items _ c.loop-item.passed _ c.loop-item.invariant.known (none_left _ _ c.in-None.ensures.steps)
+    walk_done (λ all. check_block (hashes g.H.BlockHash.hash64 g.H.BlockHash.hash128) all c.args.filter.now) none_passed c.args.index.now.items _ c.loop-item.passed _ c.loop-item.invariant.known (none_left _ _ c.in-None.ensures.steps)

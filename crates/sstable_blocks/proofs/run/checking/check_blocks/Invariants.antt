@@ -2,10 +2,11 @@ use Rattle.std.proofs.Common.{◌≡◌, ◌+◌, ◌≤◌, length}
 use Rattle.std.specs.List.{AllByRecursion}
 use Rattle.sst_block_core.specs.Window.{items_left}
 use Rattle.sst_block_core.specs.Handles.{EndFits}
+use Rattle.sstable_blocks.specs.RunChecks.{check_block, none_passed}
 use Rattle.sstable_blocks.specs.RunReading.{hashes}
 use Rattle.sstable_blocks.specs.Sources.{KeepsSource}
-use Rattle.sstable_blocks.proofs.Checks.RunCheckSteps.{BlocksLeft}
-use Rattle.sstable_blocks.proofs.Reading.FrameCounts.{IsOnWay}
+use Rattle.sstable_blocks.specs.WalkLaws.{FramesLeft, WalkLeft}
+use Rattle.sstable_blocks.specs.Walks.{place_frames}
 use Rattle.sstable_blocks.proofs.run.checking.check_blocks.Given as goal
 
 abbrev pub invariant-loop-item : goal.invariant-loop-item
@@ -15,6 +16,6 @@ invariant-loop-item g l = record {
   source : KeepsSource g.S.FrameSource.bytes g.S.FrameSource.failures g.S.FrameSource.is_reliable l.initial.source l.source;
   reads : g.S.FrameSource.reads l.source + length (items_left l.item-iterator.window) ≡ g.S.FrameSource.reads l.initial.source + length l.index.items;
   grow : g.S.FrameSource.reads l.initial.source ≤ g.S.FrameSource.reads l.source;
-  asked : IsOnWay (hashes g.H.BlockHash.hash64 g.H.BlockHash.hash128) l.filter l.index.items (g.S.FrameSource.bytes l.initial.source) l.passed (items_left l.item-iterator.window) (g.S.FrameSource.reads l.initial.source) (g.S.FrameSource.reads l.source);
-  known : BlocksLeft (hashes g.H.BlockHash.hash64 g.H.BlockHash.hash128) l.filter l.index.items (g.S.FrameSource.bytes l.initial.source) l.passed (items_left l.item-iterator.window);
+  asked : FramesLeft (λ all. check_block (hashes g.H.BlockHash.hash64 g.H.BlockHash.hash128) all l.filter) none_passed l.index.items (λ s h. place_frames s.offset h) (g.S.FrameSource.bytes l.initial.source) l.passed (items_left l.item-iterator.window) (g.S.FrameSource.reads l.initial.source) (g.S.FrameSource.reads l.source);
+  known : WalkLeft (λ all. check_block (hashes g.H.BlockHash.hash64 g.H.BlockHash.hash128) all l.filter) none_passed l.index.items (g.S.FrameSource.bytes l.initial.source) l.passed (items_left l.item-iterator.window);
 }

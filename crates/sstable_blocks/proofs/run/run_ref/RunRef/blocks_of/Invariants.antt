@@ -1,6 +1,6 @@
 use Rattle.std.proofs.Common.{◌≡◌, ◌-◌, ◌≤◌, map, take}
 use Rattle.sst_block_core.specs.DataBlock.{DataRefParts}
-use Rattle.sstable_blocks.specs.RunBlocks.{block_of, blocks_in}
+use Rattle.sstable_blocks.specs.RunBlocks.{block_of}
 use Rattle.sstable_blocks.specs.Opened.{index_in}
 use Rattle.sstable_blocks.proofs.run.run_ref.RunRef.blocks_of.Given as goal
 
