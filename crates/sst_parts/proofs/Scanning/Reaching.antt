@@ -100,5 +100,3 @@ pub record IsReached {S : Type 0} (bytes : S → Option (List ℕ)) (failures re
   pub range : n.range ≡ n0.range
   pub left : IfSome (bytes u0.table.source) (λ all. near_left c all back n u.handles ≡ near_left c all back n0 u0.handles)
   pub most : near_most n u.handles ≤ near_most n0 u0.handles
-
-}
