@@ -1,4 +1,5 @@
 -- Reads of parted tables: ranges of parts, openings and point reads.
+pub mod AnyOpenings
 pub mod CheckedReads
 pub mod Counts
 pub mod FileOpenings

@@ -1,3 +1,4 @@
+pub mod AnyTables
 pub mod Caches
 pub mod ManyReads
 pub mod Parts
