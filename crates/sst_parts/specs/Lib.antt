@@ -1,3 +1,4 @@
+pub mod AnyScans
 pub mod AnyTables
 pub mod Caches
 pub mod ManyReads

@@ -4,6 +4,7 @@
 //! of blocks, which tables share.
 #![tactic(auto)]
 
+pub mod any_scan;
 pub mod any_table;
 pub mod cache;
 pub mod cached_table;
@@ -17,6 +18,7 @@ mod scan_end;
 pub mod table;
 pub mod writer;
 
+pub use any_scan::AnyScan;
 pub use any_table::AnyTable;
 pub use cache::BlockCache;
 pub use cached_table::CachedTable;
