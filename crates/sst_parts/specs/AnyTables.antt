@@ -6,13 +6,14 @@ use Rattle.sst_base.specs.Entry.{Entry}
 use Rattle.sst_base.specs.declared.error.Error.{Error}
 use Rattle.sst_base.specs.declared.error.Error.TheVariants.{InvalidTag}
 use Rattle.sst_block_core.specs.Handles.{Handle, handles}
-use Rattle.sst_parts.specs.Parts.{FindsInParts, parted_most, read_by_top, tops_by_footer}
+use Rattle.sst_parts.specs.Parts.{FindsInParts, IsParted, parted_most, read_by_top, tops_by_footer}
 use Rattle.sst_parts.specs.declared.any_table.AnyTable.{AnyTable}
 use Rattle.sst_parts.specs.declared.any_table.AnyTable.TheVariants.{Plain, Parted}
+use Rattle.sstable_blocks.specs.Blocks.{joined}
 use Rattle.sstable_blocks.specs.Lookup.{handle_for}
 use Rattle.sstable_blocks.specs.ReadCosts.{CountsRead}
 use Rattle.sstable_blocks.specs.RunReading.{Hashes, read_checked}
-use Rattle.sstable_blocks.specs.Sound.{FindsFirst}
+use Rattle.sstable_blocks.specs.Sound.{FindsFirst, IsSound}
 use Rattle.sstable_blocks.specs.Tables.{kept_by_footer}
 use Rattle.sstable_blocks.specs.declared.run.RunHandles.{RunHandles}
 use Rattle.sstable_blocks.specs.declared.run.table.OpenError.{OpenError}
@@ -37,6 +38,11 @@ any_by_footer c bytes = or_parted (kept_by_footer c bytes) (tops_by_footer c byt
 abbrev pub kept_in : {H S : Type 0} → AnyTable H S → AnyKept
 kept_in (Plain t) = plain (t.handles, t.filter, t.index)
 kept_in (Parted t) = parted (t.top, t.tops)
+
+-- the handles of its blocks, or of its parts
+abbrev pub index_of : {H S : Type 0} → AnyTable H S → List Handle
+index_of (Plain t) = t.index
+index_of (Parted t) = t.tops
 
 -- the source of a table, and the table with another one
 abbrev pub source_in : {H S : Type 0} → AnyTable H S → S
@@ -65,6 +71,11 @@ read_any c bytes (Parted t) needle seqno = read_by_top c bytes (handle_for handl
 abbrev pub FindsInAny : {H S : Type 0} → Hashes → AnyTable H S → List ℕ → ℕ → Result (Option Entry) Error → List ℕ → Type 0
 FindsInAny c (Plain t) needle seqno result = FindsFirst c t.handles needle seqno result
 FindsInAny c (Parted t) needle seqno result = FindsInParts c t.top needle seqno result
+
+-- bytes are a table of these entries: a sound run, or a parted table
+abbrev pub HasEntries : {H S : Type 0} → Hashes → AnyTable H S → List ℕ → List Entry → Type 0
+HasEntries c (Plain t) bytes items = (blocks : List (List Entry)) × IsSound c blocks bytes t.handles × (items ≡ joined blocks)
+HasEntries c (Parted t) bytes items = (parts : List (List (List Entry))) × IsParted c parts bytes t.top × (items ≡ joined (joined parts))
 
 -- an error is that of a frame of another type
 abbrev pub IsOtherType : Error → Type 0

@@ -1,4 +1,5 @@
 pub mod AnyScans
+pub mod AnyLaws
 pub mod AnyTables
 pub mod Caches
 pub mod ManyReads

@@ -1,8 +1,8 @@
 //! Tables of either kind in a file.
-ghost use Rattle.std.specs.Prelude.{◌≡◌, ◌<◌, ◌↔◌, Ok, IfSome, IsTrue, MatchResult};
+ghost use Rattle.std.specs.Prelude.{◌≡◌, ◌<◌, ◌↔◌, Ok, IfSome, IsTrue, MatchResult, true};
 ghost use Rattle.sst_parts.specs.AnyTables.{IsOtherType, IsPartedOf, any_by_footer};
 ghost use Rattle.sst_parts.specs.AnyTables.{CountsAny, FindsInAny, any_error_after};
-ghost use Rattle.sst_parts.specs.AnyTables.{any_source_after, kept_in, read_any, source_in};
+ghost use Rattle.sst_parts.specs.AnyTables.{any_source_after, index_of, kept_in, read_any, source_in};
 ghost use Rattle.sst_parts.specs.AnyTables.{with_source};
 ghost use Rattle.sst_parts.specs.Parts.{tops_by_footer};
 ghost use Rattle.sstable_blocks.specs.RunReading.{hashes};
@@ -10,6 +10,7 @@ ghost use Rattle.sstable_blocks.specs.Sources.{AsksAny, AsksUpTo, FailsAs, Reads
 
 use crate::table::PartedTable;
 use sst_base::{BlockHash, Error, InternalValue, Result, SeqNo, Steps};
+use sst_block_core::IndexBlock;
 use sstable_blocks::run::{FrameSource, OpenError, SizedSource, Table};
 use std::alloc::Global;
 
@@ -111,6 +112,17 @@ impl<H: BlockHash, S: FrameSource> AnyTable<H, S> {
         match self {
             AnyTable::Plain(table) => table.get(alloc, needle, seqno, steps),
             AnyTable::Parted(table) => table.get(alloc, needle, seqno, steps),
+        }
+    }
+
+    /// Returns the index, of the blocks or of the parts, with the table of its heads.
+    pub fn index(&self) -> &IndexBlock
+        ensures items { result.now.items ≡ index_of self.now }
+        ensures heads { result.now.heads ≡ true }
+    {
+        match self {
+            AnyTable::Plain(table) => table.index(),
+            AnyTable::Parted(table) => table.index(),
         }
     }
 }

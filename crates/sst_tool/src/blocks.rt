@@ -2,7 +2,7 @@
 ghost use Rattle.std.specs.Prelude.{◌≡◌, ◌<◌, length};
 
 use crate::fault::{Cause, Fault, Result, Shown as ShownError, printed};
-use crate::open::open;
+use crate::open::open_plain;
 use crate::progress::Progress;
 use crate::show::Shown;
 use crate::words::FILE;
@@ -192,7 +192,7 @@ pub fn run<H: BlockHash, R: Files + Clock + Eprint, O: Write>(
     output: &mut O,
 ) -> Result<()> {
     let file = words.get_str(FILE).unwrap_or("");
-    match open::<H, R>(progress, alloc, file) {
+    match open_plain::<H, R>(progress, alloc, file) {
         Ok(table) => blocks_in(progress, alloc, file, table, output),
         Err(fault) => Err(fault),
     }
@@ -258,7 +258,7 @@ pub fn run_index<H: BlockHash, R: Files + Clock + Eprint, O: Write>(
     words: &ArgMatches<'_>,
     output: &mut O,
 ) -> Result<()> {
-    match open::<H, R>(progress, alloc, words.get_str(FILE).unwrap_or("")) {
+    match open_plain::<H, R>(progress, alloc, words.get_str(FILE).unwrap_or("")) {
         Ok(table) => index_in(alloc, table, output),
         Err(fault) => Err(fault),
     }

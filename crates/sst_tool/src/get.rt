@@ -1,11 +1,10 @@
 //! `get`: the newest version of a key.
 ghost use Rattle.std.specs.Prelude.{◌≡◌, List, map, slice_get, IfOk, IfSome};
 ghost use Rattle.sst_base.specs.Entry.{Entry, plain};
+ghost use Rattle.sst_parts.specs.AnyTables.{HasEntries, source_in};
 ghost use Rattle.sst_tool.specs.Keys.{only_key, read_of};
-ghost use Rattle.sstable_blocks.specs.Blocks.{joined};
 ghost use Rattle.sstable_blocks.specs.RunReading.{hashes};
 ghost use Rattle.sstable_blocks.specs.Scans.{within};
-ghost use Rattle.sstable_blocks.specs.Sound.{IsSound};
 
 use crate::fault::{Result, printed};
 use crate::keys::key_in;
@@ -14,8 +13,9 @@ use crate::progress::Progress;
 use crate::show::{EntryForm, Formed, Style};
 use crate::words::{AT, FILE, KEY};
 use clap::ArgMatches;
+use sst_parts::AnyTable;
 use sstable_blocks::{
-    BlockHash, FileSource, FrameSource, InternalValue, SeekInput, SeqNo, Steps, Table,
+    BlockHash, FileSource, FrameSource, InternalValue, SeekInput, SeqNo, Steps,
 };
 use std::alloc::Global;
 use std::io;
@@ -26,13 +26,13 @@ use std::rt::{Clock, Files};
 // Reads the newest version of a key from a table, whatever its sequence number.
 fn newest_in<H: BlockHash, S: FrameSource + Drop>(
     alloc: Global,
-    table: Table<H, S>,
+    table: AnyTable<H, S>,
     key: &[u8],
 ) -> sstable_blocks::Result<Option<InternalValue>>
-    ensures newest { IfSome (S.bytes table.source) (λ all. (blocks : List (List Entry))
-        → IsSound (hashes H.hash64 H.hash128) blocks all table.handles
+    ensures newest { IfSome (S.bytes (source_in table)) (λ all. (items : List Entry)
+        → HasEntries (hashes H.hash64 H.hash128) table all items
         → IfOk result (λ found. found
-        ≡ slice_get (within (only_key key.now) (map plain (joined blocks))) 0)) }
+        ≡ slice_get (within (only_key key.now) (map plain items)) 0)) }
 {
     let mut versions = table.scan_range(Bound::Included(key), Bound::Included(key));
     versions.next_entry(alloc)
@@ -41,13 +41,13 @@ fn newest_in<H: BlockHash, S: FrameSource + Drop>(
 // Reads the newest version of a key from a table: below a sequence number, if there is one.
 fn read_in<H: BlockHash, S: FrameSource + Drop>(
     alloc: Global,
-    table: Table<H, S>,
+    table: AnyTable<H, S>,
     key: &[u8],
     at: Option<SeqNo>,
 ) -> sstable_blocks::Result<Option<InternalValue>>
-    ensures read { IfSome (S.bytes table.source) (λ all. (blocks : List (List Entry))
-        → IsSound (hashes H.hash64 H.hash128) blocks all table.handles
-        → IfOk result (λ found. found ≡ read_of at key.now (joined blocks))) }
+    ensures read { IfSome (S.bytes (source_in table)) (λ all. (items : List Entry)
+        → HasEntries (hashes H.hash64 H.hash128) table all items
+        → IfOk result (λ found. found ≡ read_of at key.now items)) }
 {
     let mut table = table;
     match at {
@@ -62,7 +62,7 @@ fn found_in<H: BlockHash, F: SeekInput + Drop, R>(
     progress: &Progress<'_, R>,
     alloc: Global,
     file: &str,
-    table: Table<H, FileSource<F>>,
+    table: AnyTable<H, FileSource<F>>,
     key: &[u8],
     at: Option<SeqNo>,
 ) -> Result<Option<InternalValue>> {

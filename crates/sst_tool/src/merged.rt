@@ -1,6 +1,7 @@
 //! The tables that are merged, as sources of entries.
 ghost use Rattle.std.specs.Prelude.{◌≡◌, ◌+◌, length, None, OnOk, IfOk};
 ghost use Rattle.sst_merge.specs.Stored.{MayFailAnyTime};
+ghost use Rattle.sst_parts.specs.AnyScans.{source_of};
 ghost use Rattle.sst_tool.specs.Orders.{MayMisplace};
 ghost use Rattle.sst_tool.specs.Passed.{passed_on};
 ghost use Rattle.sst_tool.specs.Scanned.{scanned_left};
@@ -14,7 +15,8 @@ use crate::ordered::{Direction, Ordered};
 use crate::progress::Progress;
 use crate::source::Scanned;
 use sst_merge::{Head, Source};
-use sstable_blocks::{BlockHash, Error, FileSource, InternalValue, SeekInput, Table};
+use sst_parts::AnyTable;
+use sstable_blocks::{BlockHash, Error, FileSource, InternalValue, SeekInput};
 use std::alloc::Global;
 use std::cell::Cell;
 use std::marker::PhantomData;
@@ -154,7 +156,7 @@ impl<'p, H: BlockHash, R> Files<'p, H, R> {
         alloc: Global,
         file: &str,
         index: usize,
-        table: Result<Table<H, FileSource<F>>>,
+        table: Result<AnyTable<H, FileSource<F>>>,
     ) -> Result<FileEntries<'p, H, F>> {
         let table = table?;
         match test_frames(alloc, file, table.index()) {
@@ -167,7 +169,7 @@ impl<'p, H: BlockHash, R> Files<'p, H, R> {
     fn in_order<F: SeekInput + Drop>(
         &self,
         index: usize,
-        table: Table<H, FileSource<F>>,
+        table: AnyTable<H, FileSource<F>>,
     ) -> FileEntries<'p, H, F> {
         self.progress.expect_blocks(table.index().len() as u64);
         self.notes.longest.see(table.index());
@@ -192,7 +194,7 @@ pub struct FileEntries<'p, H: BlockHash, F: SeekInput> {
 impl<'p, H: BlockHash, F: SeekInput> Source<InternalValue> for FileEntries<'p, H, F> {
     ghost left = { λ s. passed_on
         (scanned_left (hashes H.hash64 H.hash128)
-        (F.whole s.entries.source.source.scan.table.source.inner) s.entries.source.source.scan)
+        (F.whole (source_of s.entries.source.source.scan).inner) s.entries.source.source.scan)
         s.entries.source.ended };
 
     ghost may_fail = { MayMisplace (MayFailAnyTime (λ (s : SourceParts F). F.is_memory s.inner)) };

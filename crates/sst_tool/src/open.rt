@@ -3,6 +3,7 @@ use crate::fault::{Cause, Fault, Result};
 use crate::place::{TableBlock, footer_block_at};
 use crate::progress::Progress;
 use crate::tidy::first_astray;
+use sst_parts::AnyTable;
 use sst_program::table::TableFile;
 use sstable_blocks::run::footer::read_footer;
 use sstable_blocks::{
@@ -63,8 +64,11 @@ impl<'p, R: Files + Clock + Eprint> SeekInput for CountedFile<'p, R> {
     }
 }
 
-/// A table in a file.
-pub type FileTable<'p, H, R> = Table<H, FileSource<CountedFile<'p, R>>>;
+/// A table in a file, plain or parted.
+pub type FileTable<'p, H, R> = AnyTable<H, FileSource<CountedFile<'p, R>>>;
+
+/// A plain table in a file.
+pub type PlainTable<'p, H, R> = Table<H, FileSource<CountedFile<'p, R>>>;
 
 // The block at an offset of a file that is not opened, by its footer.
 fn block_at<S: SizedSource>(alloc: Global, source: &mut S, offset: u64) -> Option<TableBlock> {
@@ -92,14 +96,14 @@ fn refused<S: SizedSource + Drop>(
     }
 }
 
-// Opens the table in a source, if there is one.
-fn table_in<H: BlockHash, F: SeekInput + Drop, R>(
+// What was opened, or the fault of a table that is not.
+fn opened<T: Drop, F: SeekInput + Drop, R>(
     progress: &Progress<'_, R>,
     alloc: Global,
     name: &str,
-    source: Result<FileSource<F>>,
-) -> Result<Table<H, FileSource<F>>> {
-    match Table::open_file(alloc, source?) {
+    opened: std::result::Result<T, OpenError<FileSource<F>>>,
+) -> Result<T> {
+    match opened {
         Ok(table) => Ok(table),
         Err(failed) => {
             let (offset, cause) = (progress.offset(), progress.cause());
@@ -128,7 +132,8 @@ pub fn source_of<'p, R: Files + Clock + Eprint>(
     }
 }
 
-/// Opens a table file: reads its footer, filter and index.
+/// Opens a table file, plain or parted: reads its footer, then filter and index, or the index of its
+/// parts.
 ///
 /// # Errors
 ///
@@ -138,8 +143,22 @@ pub fn open<'p, H: BlockHash, R: Files + Clock + Eprint>(
     alloc: Global,
     name: &str,
 ) -> Result<FileTable<'p, H, R>> {
-    let source = source_of(progress, alloc, name);
-    table_in(progress, alloc, name, source)
+    let source = source_of(progress, alloc, name)?;
+    opened(progress, alloc, name, AnyTable::open_file(alloc, source))
+}
+
+/// Opens a plain table file: reads its footer, filter and index.
+///
+/// # Errors
+///
+/// Those of the library, with the file's name and the block that was read last.
+pub fn open_plain<'p, H: BlockHash, R: Files + Clock + Eprint>(
+    progress: &'p Progress<'p, R>,
+    alloc: Global,
+    name: &str,
+) -> Result<PlainTable<'p, H, R>> {
+    let source = source_of(progress, alloc, name)?;
+    opened(progress, alloc, name, Table::open_file(alloc, source))
 }
 
 /// Tests by the index of a table that the frames of its blocks follow each other, as those do that

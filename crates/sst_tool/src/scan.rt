@@ -19,7 +19,8 @@ use crate::source::Scanned;
 use crate::words::{AT, FILE, FROM, JSON, KEYS_ONLY, LIMIT, PREFIX, REVERSE, TEXT, TO};
 use clap::ArgMatches;
 use sst_merge::{Snapshot, Source};
-use sstable_blocks::{BlockHash, Error, FileSource, InternalValue, SeekInput, SeqNo, Table};
+use sst_parts::AnyTable;
+use sstable_blocks::{BlockHash, Error, FileSource, InternalValue, SeekInput, SeqNo};
 use std::alloc::Global;
 use std::io::Write;
 use std::ops::Bound;
@@ -203,7 +204,7 @@ fn print_table<H: BlockHash, F: SeekInput + Drop, R, O: Write + Drop>(
     progress: &Progress<'_, R>,
     alloc: Global,
     wanted: Wanted,
-    table: Table<H, FileSource<F>>,
+    table: AnyTable<H, FileSource<F>>,
     range: &Range,
     lines: &mut Lines<O>,
 ) -> std::result::Result<(), Stop> {
@@ -219,7 +220,7 @@ fn print_range_in<H: BlockHash, F: SeekInput + Drop, R, O: Write + Drop>(
     progress: &Progress<'_, R>,
     alloc: Global,
     words: &ArgMatches<'_>,
-    table: Table<H, FileSource<F>>,
+    table: AnyTable<H, FileSource<F>>,
     range: &Range,
     lines: &mut Lines<O>,
 ) -> std::result::Result<(), Stop> {

@@ -1,6 +1,7 @@
 //! Scans of tables as sources of entries.
 ghost use Rattle.std.specs.Prelude.{◌≡◌, None};
 ghost use Rattle.sst_merge.specs.Stored.{MayFailAnyTime};
+ghost use Rattle.sst_parts.specs.AnyScans.{source_of};
 ghost use Rattle.sst_tool.specs.Scanned.{scanned_left};
 ghost use Rattle.sstable_blocks.specs.RunReading.{hashes};
 ghost use Rattle.sst_tool.specs.Ends.{above, is_end_at};
@@ -8,8 +9,9 @@ ghost use Rattle.sst_tool.specs.Ends.{above, is_end_at};
 use crate::ordered::{Direction, InBlocks};
 use sst_block_core::table::block::bound::Bound as SeekBound;
 use sst_merge::Source;
+use sst_parts::AnyScan;
 use sstable_blocks::{
-    BlockHash, FrameSource, IndexBlock, InternalKey, InternalValue, Result, Scan, SeqNo, Steps,
+    BlockHash, FrameSource, IndexBlock, InternalKey, InternalValue, Result, SeqNo, Steps,
 };
 use std::alloc::Global;
 use std::cell::Cell;
@@ -18,7 +20,7 @@ use std::ops::Bound;
 /// What is left of a scan, from one of its ends.
 #[derive(Drop)]
 pub struct Scanned<'p, 'k, H: BlockHash, S: FrameSource> {
-    scan: Scan<'k, H, S>,
+    scan: AnyScan<'k, H, S>,
     direction: Direction,
     // where the block is that a fault names
     place: &'p Cell<Option<u64>>,
@@ -26,6 +28,15 @@ pub struct Scanned<'p, 'k, H: BlockHash, S: FrameSource> {
     unread: (usize, usize),
     // the block of which the range may leave the last entries out
     cut: Option<usize>,
+}
+
+// The blocks that a scan of a plain table has not read, from one index up to another; none of a
+// parted one, whose parts are tables that were opened.
+fn unread_of<H: BlockHash, S: FrameSource>(scan: &AnyScan<'_, H, S>) -> (usize, usize) {
+    match scan {
+        AnyScan::Plain(scan) => scan.unread(),
+        AnyScan::Parted(_) => (0, 0),
+    }
 }
 
 // The block before an index, if the range ends in it.
@@ -40,12 +51,12 @@ impl<'p, 'k, H: BlockHash, S: FrameSource> Scanned<'p, 'k, H, S> {
     /// Takes the entries of a scan up to a bound in this direction. None was taken. Where a block
     /// that does not end as the index names is, is noted in `place`.
     pub fn new(
-        scan: Scan<'k, H, S>,
+        scan: AnyScan<'k, H, S>,
         to: Bound<&'k [u8]>,
         direction: Direction,
         place: &'p Cell<Option<u64>>,
     ) -> Scanned<'p, 'k, H, S> {
-        let unread = scan.unread();
+        let unread = unread_of(&scan);
         Scanned {
             scan,
             direction,
@@ -58,7 +69,10 @@ impl<'p, 'k, H: BlockHash, S: FrameSource> Scanned<'p, 'k, H, S> {
     // Whether a block ends with an entry of this key, by the index. A block that the range cuts may
     // end with another.
     fn is_end(&self, block: usize, key: &InternalKey) -> bool {
-        let index = self.scan.table().index();
+        let AnyScan::Plain(scan) = &self.scan else {
+            return true;
+        };
+        let index = scan.table().index();
         if self.cut == Some(block) || is_end_in(index, block, key) {
             return true;
         }
@@ -96,7 +110,7 @@ fn above(number: SeqNo) -> Option<SeqNo>
 
 impl<'p, 'k, H: BlockHash, S: FrameSource> InBlocks for Scanned<'p, 'k, H, S> {
     fn ends_fit(&self, last: &Option<InternalKey>, next: &Option<InternalValue>) -> bool {
-        let (before, after) = (self.unread, self.scan.unread());
+        let (before, after) = (self.unread, unread_of(&self.scan));
         match (self.direction, last, next) {
             (Direction::Backward, _, Some(entry)) => {
                 before.1 == after.1 || self.is_end(after.1, entry.key())
@@ -112,12 +126,12 @@ impl<'p, 'k, H: BlockHash, S: FrameSource> InBlocks for Scanned<'p, 'k, H, S> {
 
 impl<'p, 'k, H: BlockHash, S: FrameSource> Source<InternalValue> for Scanned<'p, 'k, H, S> {
     ghost left = { λ s.
-        scanned_left (hashes H.hash64 H.hash128) (S.bytes s.scan.table.source) s.scan };
+        scanned_left (hashes H.hash64 H.hash128) (S.bytes (source_of s.scan)) s.scan };
 
     ghost may_fail = { MayFailAnyTime S.is_reliable };
 
     fn next_entry(&mut self, alloc: Global) -> Result<Option<InternalValue>> {
-        self.unread = self.scan.unread();
+        self.unread = unread_of(&self.scan);
         match self.direction {
             Direction::Forward => self.scan.next_entry(alloc),
             Direction::Backward => self.scan.next_entry_back(alloc),

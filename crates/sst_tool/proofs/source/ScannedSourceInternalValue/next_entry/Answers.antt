@@ -2,7 +2,7 @@ use Rattle.std.proofs.Common.{◌<◌, None}
 use Rattle.sst_base.specs.Entry.{Entry}
 use Rattle.sst_merge.specs.FailureLaws.{scan_fails, scan_fails_back, scan_no_more_back}
 use Rattle.sstable_blocks.specs.RunReading.{hashes}
-use Rattle.sstable_blocks.specs.Scans.{most_left, reads_left}
+use Rattle.sst_parts.specs.AnyScans.{ended_in, left_in, most_in, source_of}
 use Rattle.sst_tool.proofs.source.ScannedSourceInternalValue.next_entry.Goals as goal
 
 pub returns-in-Forward-clause-cause : goal.returns-in-Forward-clause-cause
@@ -12,7 +12,7 @@ returns-in-Forward-clause-cause g c =
     let old = c.args.self.now.scan in
     let new = c.next_entry.new.self in
     let e = c.next_entry.ensures in
-    scan_fails {X = Entry} f.is_reliable old.table.source (f.failures old.table.source < f.failures new.table.source) None (most_left old) (f.bytes old.table.source) (λ all. reads_left h all old) (λ all. reads_left h all new) old.ended new.ended c.next_entry.result e.ended e.first
+    scan_fails {X = Entry} f.is_reliable (source_of old) (f.failures (source_of old) < f.failures (source_of new)) None (most_in old) (f.bytes (source_of old)) (λ all. left_in h all old) (λ all. left_in h all new) (ended_in old) (ended_in new) c.next_entry.result e.ended e.first
 
 pub returns-in-Backward-clause-cause : goal.returns-in-Backward-clause-cause
 returns-in-Backward-clause-cause g c =
@@ -21,7 +21,7 @@ returns-in-Backward-clause-cause g c =
     let old = c.args.self.now.scan in
     let new = c.next_entry_back.new.self in
     let e = c.next_entry_back.ensures in
-    scan_fails_back {X = Entry} f.is_reliable old.table.source (f.failures old.table.source < f.failures new.table.source) None (most_left old) (f.bytes old.table.source) (λ all. reads_left h all old) (λ all. reads_left h all new) old.ended new.ended c.next_entry_back.result e.ended e.last
+    scan_fails_back {X = Entry} f.is_reliable (source_of old) (f.failures (source_of old) < f.failures (source_of new)) None (most_in old) (f.bytes (source_of old)) (λ all. left_in h all old) (λ all. left_in h all new) (ended_in old) (ended_in new) c.next_entry_back.result e.ended e.last
 
 pub returns-in-Backward-clause-no_more : goal.returns-in-Backward-clause-no_more
 returns-in-Backward-clause-no_more g c =
@@ -30,5 +30,5 @@ returns-in-Backward-clause-no_more g c =
     let old = c.args.self.now.scan in
     let new = c.next_entry_back.new.self in
     let e = c.next_entry_back.ensures in
-    scan_no_more_back {X = Entry} (f.failures old.table.source < f.failures new.table.source) (f.is_reliable old.table.source) None None (most_left old) (most_left new) (f.bytes old.table.source) (f.bytes new.table.source)
-    (λ all. reads_left h all old) (λ all. reads_left h all new) old.ended new.ended c.next_entry_back.result e.ended e.source.source.same e.last
+    scan_no_more_back {X = Entry} (f.failures (source_of old) < f.failures (source_of new)) (f.is_reliable (source_of old)) None None (most_in old) (most_in new) (f.bytes (source_of old)) (f.bytes (source_of new))
+    (λ all. left_in h all old) (λ all. left_in h all new) (ended_in old) (ended_in new) c.next_entry_back.result e.ended e.source.source.same e.last
