@@ -1,2 +1,2 @@
-mod Store
+mod Leveled
 mod Stored

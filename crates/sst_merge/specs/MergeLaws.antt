@@ -29,8 +29,8 @@ module _ {X : Type 0} (cmp : X → X → Ordering) where
   all_merge P [] ys a b = b
   all_merge P (x ∷ xs) [] a b = a
   all_merge P (x ∷ xs) (y ∷ ys) a b = elim (cases_Bool (is_lt (cmp y x))) [
-    | inl second ↦ subst (AllByRecursion P) (sym (merge-second cmp x y xs ys second)) (b.0, all_merge P (x ∷ xs) ys a b.1)
-    | inr first ↦ subst (AllByRecursion P) (sym (merge-first cmp x y xs ys first)) (a.0, all_merge P xs (y ∷ ys) a.1 b)
+    | inl second ↦ subst (AllByRecursion P) (sym (merge-second x y xs ys second)) (b.0, all_merge P (x ∷ xs) ys a b.1)
+    | inr first ↦ subst (AllByRecursion P) (sym (merge-first x y xs ys first)) (a.0, all_merge P xs (y ∷ ys) a.1 b)
   ]
 
   -- P holds of the first item, and no item sorts before its predecessor

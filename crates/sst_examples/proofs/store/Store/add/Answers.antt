@@ -3,7 +3,7 @@ use Rattle.std.specs.List.{insert}
 use Rattle.sst_base.specs.Entry.{Entry}
 use Rattle.sst_merge.specs.Merge.{entry_cmp, merge}
 use Rattle.sst_merge.specs.Snapshot.{seen}
-use Rattle.sst_examples.proofs.Store.Levels.{version_added}
+use Rattle.sst_examples.proofs.Leveled.Levels.{version_added}
 use Rattle.sst_examples.proofs.store.Store.add.Goals as goal
 use Rattle.sst_examples.specs.Levels.{IsVersionWritten, levels, version}
 use Rattle.sst_examples.specs.Tables.{merged_tables}

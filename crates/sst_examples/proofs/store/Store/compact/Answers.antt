@@ -4,7 +4,7 @@ use Rattle.sst_base.specs.Entry.{Entry, plain}
 use Rattle.sst_merge.specs.Compact.{IsKeptRead, compacted}
 use Rattle.sst_merge.specs.MappedLaws.{entries_themselves}
 use Rattle.sst_merge.specs.Sources.{Left, before, left_as}
-use Rattle.sst_examples.proofs.Store.Levels.{compacted_left, compacted_same, level_compacted}
+use Rattle.sst_examples.proofs.Leveled.Levels.{compacted_left, compacted_same, level_compacted}
 use Rattle.sst_examples.proofs.store.Store.compact.Goals as goal
 use Rattle.sst_examples.specs.Levels.{AreLevels, Levels, levels, or_none, read}
 use Rattle.sst_examples.specs.Tables.{HoldsEntries, MemoryTable, merged_tables}

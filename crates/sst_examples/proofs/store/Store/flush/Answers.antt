@@ -1,6 +1,6 @@
 use Rattle.std.proofs.Common.{[], Some, ◌∙◌, ap}
 use Rattle.sst_merge.specs.MappedLaws.{entries_themselves}
-use Rattle.sst_examples.proofs.Store.Levels.{IsFlushed, memory_flushed}
+use Rattle.sst_examples.proofs.Leveled.Levels.{IsFlushed, memory_flushed}
 use Rattle.sst_examples.proofs.store.Store.flush.Goals as goal
 use Rattle.sst_examples.proofs.Stored.Written.{zip_same}
 use Rattle.sst_examples.specs.Levels.{Levels, versions}

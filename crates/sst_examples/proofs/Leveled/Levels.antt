@@ -23,7 +23,7 @@ use Rattle.sst_examples.specs.Levels.{AreBelow, AreLevels, ArePlain, IsVersionWr
 use Rattle.sst_examples.specs.Tables.{HoldsEntries, MemoryTable, merged_tables, table_entries}
 use Rattle.sst_merge.specs.MergeLaws.{all_merge}
 use Rattle.sst_merge.specs.RangeLaws.{version_key}
-use Rattle.sst_examples.proofs.Store.Newer.{all_compact, all_plain, all_weaker, newer_read, one_read, or_older, or_older_both}
+use Rattle.sst_examples.proofs.Leveled.Newer.{all_compact, all_plain, all_weaker, newer_read, one_read, or_older, or_older_both}
 
 -- all versions in order
 abbrev all_versions : List Entry → Option (List Entry) → List Entry
