@@ -5,5 +5,7 @@ pub mod SortedCounts
 pub mod BlockPlaces
 pub mod BlockCounts
 pub mod BlockEnds
+pub mod BlockStarts
 pub mod TableEnds
+pub mod TableFrames
 pub mod SoundTables

@@ -10,7 +10,7 @@ use Rattle.sst_base.specs.declared.error.Error.TheVariants.{Memory}
 use Rattle.sst_block_core.specs.Checks.{is_in_order}
 use Rattle.sst_block_core.specs.Handles.{Handle}
 use Rattle.sst_block_core.specs.Scan.{Scan}
-use Rattle.sst_block_core.specs.Window.{items_left}
+use Rattle.sst_block_core.specs.Window.{Window, items_left}
 use Rattle.sstable_blocks.specs.Blocks.{joined}
 use Rattle.sstable_blocks.specs.Opened.{range_of}
 use Rattle.sstable_blocks.specs.RunReading.{Hashes, block_items_at}
@@ -133,10 +133,34 @@ pub record GoesBack (old new : Option TableEnd) (result : Option Entry) (blocks 
 abbrev pub OfBlocks : {S : Type 0} → Hashes → (S → Option (List ℕ)) → TableParts S → (List (List Entry) → Type 0) → Type 0
 OfBlocks c bytes t holds = IfSome (table_blocks c (bytes t.source) t.index) holds
 
+-- the places at which blocks begin, the first of them at this one
+abbrev pub starts_from : ℕ → List (List Entry) → List ℕ
+starts_from place [] = []
+starts_from place (block ∷ blocks) = place ∷ starts_from (place + length block) blocks
+
+-- the places of a list in blocks at which another block than the first begins, where the blocks are known
+abbrev pub later_starts : Option (List (List Entry)) → List ℕ
+later_starts None = []
+later_starts (Some []) = []
+later_starts (Some (block ∷ blocks)) = starts_from (length block) blocks
+
 -- a table whose ends were moved
-abbrev pub table_moved : {S : Type 0} → Hashes → (S → Option (List ℕ)) → TableParts S → Option TableEnd → Option TableEnd → Option Error → Moved Entry
-table_moved c bytes t front back ended = record {
+abbrev pub table_moved : {S : Type 0} → Hashes → (S → Option (List ℕ)) → (S → ℕ) → TableParts S → Option TableEnd → Option TableEnd → Option Error → Moved Entry
+table_moved c bytes reads t front back ended = record {
   window = unless_ended ended (option_map (λ blocks. window_of blocks (end_in front) (end_in back)) (table_blocks c (bytes t.source) t.index));
   errors = table_errors c (bytes t.source) t.index;
   ended = ended;
+  reads = reads t.source;
+  tables = 1;
+  starts = later_starts (table_blocks c (bytes t.source) t.index);
 }
+
+-- how many frames were asked for before and after a call: one more, where a block is there to be read, and else no more
+pub record AsksWhere (There : Type 0) (before after : ℕ) : Type 0 where
+  pub one : There → after ≡ before + 1
+  pub none : (There → ⊥) → after ≡ before
+
+-- where the blocks are known, a call asks for exactly as many frames as is told by where they begin and where its ends
+-- stand after it
+abbrev pub AsksByEnds : {S : Type 0} → Hashes → (S → Option (List ℕ)) → (S → ℕ) → (ℕ → List ℕ → Window Entry → ℕ) → TableParts S → TableParts S → Option TableEnd → Option TableEnd → Type 0
+AsksByEnds c bytes reads frames old new front back = OfBlocks c bytes old (λ blocks. reads new.source ≡ reads old.source + frames 1 (later_starts (Some blocks)) (window_of blocks (end_in front) (end_in back)))

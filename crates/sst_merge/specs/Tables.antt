@@ -58,10 +58,11 @@ pub record TakesBlock {X : Type 0} (entry : X → Entry) (r size : ℕ) (before 
   pub ended : after.ended ≡ before.ended
   pub no_more : MeetsNoMore before after
 
--- a writer of runs accepted one more block
+-- a writer of runs accepted one more block, of at least one entry
 pub record AddsBlock {W : Type 0} (old new : Writing W) (block : List Entry) : Type 0 where
   pub blocks : new.blocks ≡ old.blocks ++ block ∷ []
   pub accepting : new.refusal ≡ None
+  pub some : 1 ≤ length block
 
 -- a block that was taken is not the next one of a run: it does not fit after the blocks before, or is not in order
 abbrev pub IsNoBlock : Form → List (List Entry) → List Entry → Error → Type 0

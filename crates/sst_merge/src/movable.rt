@@ -1,6 +1,6 @@
 //! Ordered merges that are moved: taken from both ends, and sought in.
 ghost use Rattle.std.specs.Prelude.{◌≡◌, ◌+◌, ◌<◌, ℕ, List, length, map, slice_get, true};
-ghost use Rattle.std.specs.Prelude.{IfErr, IfOk, IfSome, None, OnErr, OnOk, Some, false};
+ghost use Rattle.std.specs.Prelude.{◌*◌, IfErr, IfOk, IfSome, None, OnErr, OnOk, Some, false, min};
 ghost use Rattle.std.specs.Cmp.Lexicographic.{slice_cmp};
 ghost use Rattle.std.specs.List.{AllByRecursion};
 ghost use Rattle.std.specs.Option.{option_map};
@@ -13,8 +13,10 @@ ghost use Rattle.sst_merge.specs.Merge.{merged};
 ghost use Rattle.sst_merge.specs.Movable.{IsBackAmong, IsBackPick, IsFrontAmong, IsFrontPick};
 ghost use Rattle.sst_merge.specs.Movable.{goes_after, goes_before, is_at_most, is_below};
 ghost use Rattle.sst_merge.specs.Movable.{item_before, lists_in, seek_to, seek_up_to};
-ghost use Rattle.sst_merge.specs.Moved.{IsFreshSource, IsStep, MayStop, Moved, StopsBy, are_known};
-ghost use Rattle.sst_merge.specs.Moved.{merged_moved, sought, step_back, step_front, windows};
+ghost use Rattle.sst_merge.specs.Moved.{AsksAtMost, AsksByPlace, IsFreshSource, IsSought, IsStep};
+ghost use Rattle.sst_merge.specs.Moved.{MayStop, Moved, StopsBy, are_known, back_frames, but_reads};
+ghost use Rattle.sst_merge.specs.Moved.{front_frames, merged_moved, seek_frames, seek_upper_frames};
+ghost use Rattle.sst_merge.specs.Moved.{sought, step_back, step_front, windows};
 
 use crate::ranked::Ranked;
 use crate::source::note_error;
@@ -52,7 +54,8 @@ impl<'a> Keyed for EntryView<'a> {
 /// An error ends the source: each later step and search returns it again.
 pub trait Movable<T: Keyed> {
     // its list with the indexes from which the front goes on and up to which the back does, where
-    // they are known; the errors that reading it may give, and the error that ended it, if one did
+    // they are known; the errors that reading it may give, and the error that ended it, if one did;
+    // how many frames it asked for, and where its blocks begin
     ghost moved: { Self → Moved T };
 
     // The errors that any step may give, whatever the list: those of an allocation, where a step takes
@@ -75,6 +78,10 @@ pub trait Movable<T: Keyed> {
 
     /// Takes the item after the front, if there is one, whatever the back is.
     ///
+    /// In memory no frame is asked for; over a table one where it brings the front to another block,
+    /// else none, and at most one where its list is not known or the step fails. A source that has
+    /// ended asks for none.
+    ///
     /// # Errors
     ///
     /// Those of what the list is read from, and of an allocation where a step takes memory.
@@ -82,9 +89,12 @@ pub trait Movable<T: Keyed> {
         ensures step { IfOk result
             (λ r. IsStep step_front (moved self.old) r (moved self.new)) }
         ensures ended { StopsBy (moved self.old) (moved self.new) result }
-        ensures cause { IfErr result (MayStop may_fail (moved self.old)) };
+        ensures cause { IfErr result (MayStop may_fail (moved self.old)) }
+        ensures most { AsksAtMost (min 1 (moved self.old).tables) (moved self.old) (moved self.new) }
+        ensures asks { OnOk result (AsksByPlace front_frames (moved self.old) (moved self.new)) };
 
-    /// Takes the item before the back, if there is one, whatever the front is.
+    /// Takes the item before the back, if there is one, whatever the front is. Frames are asked for
+    /// as by [`Movable::next`].
     ///
     /// # Errors
     ///
@@ -93,29 +103,43 @@ pub trait Movable<T: Keyed> {
         ensures step { IfOk result
             (λ r. IsStep step_back (moved self.old) r (moved self.new)) }
         ensures ended { StopsBy (moved self.old) (moved self.new) result }
-        ensures cause { IfErr result (MayStop may_fail (moved self.old)) };
+        ensures cause { IfErr result (MayStop may_fail (moved self.old)) }
+        ensures most { AsksAtMost (min 1 (moved self.old).tables) (moved self.old) (moved self.new) }
+        ensures asks { OnOk result (AsksByPlace back_frames (moved self.old) (moved self.new)) };
 
     /// Moves the front before the first item of the whole list whose user key is at least `key`.
+    ///
+    /// In memory no frame is asked for; over a table one where a block can have such a key, else
+    /// none, and at most one where its list is not known or the search fails.
     ///
     /// # Errors
     ///
     /// Those of [`Movable::next`].
     fn seek(&mut self, alloc: Global, key: &[u8]) -> Result<()>
         ensures sought { OnOk result
-            (moved self.new ≡ sought (seek_to (is_below T.key key.now)) (moved self.old)) }
+            (IsSought (seek_to (is_below T.key key.now)) (moved self.old) (moved self.new)) }
         ensures ended { StopsBy (moved self.old) (moved self.new) result }
-        ensures cause { IfErr result (MayStop may_fail (moved self.old)) };
+        ensures cause { IfErr result (MayStop may_fail (moved self.old)) }
+        ensures most { AsksAtMost (moved self.old).tables (moved self.old) (moved self.new) }
+        ensures asks { OnOk result (AsksByPlace seek_frames (moved self.old) (moved self.new)) };
 
     /// Moves the back after the last item of the whole list whose user key is at most `key`.
+    ///
+    /// In memory no frame is asked for; over a table that has a block one, and the one before it too
+    /// where the block at which the search stops has no such key. At most two are asked for where its
+    /// list is not known or the search fails.
     ///
     /// # Errors
     ///
     /// Those of [`Movable::next`].
     fn seek_upper(&mut self, alloc: Global, key: &[u8]) -> Result<()>
         ensures sought { OnOk result
-            (moved self.new ≡ sought (seek_up_to (is_at_most T.key key.now)) (moved self.old)) }
+            (IsSought (seek_up_to (is_at_most T.key key.now)) (moved self.old) (moved self.new)) }
         ensures ended { StopsBy (moved self.old) (moved self.new) result }
-        ensures cause { IfErr result (MayStop may_fail (moved self.old)) };
+        ensures cause { IfErr result (MayStop may_fail (moved self.old)) }
+        ensures most { AsksAtMost (2 * (moved self.old).tables) (moved self.old) (moved self.new) }
+        ensures asks { OnOk result
+            (AsksByPlace seek_upper_frames (moved self.old) (moved self.new)) };
 }
 
 // Whether an item sorts before another.
@@ -226,11 +250,14 @@ fn last_source<T: Keyed, I: Movable<T>>(sources: &[I]) -> usize
 
 // Moves the front of each source.
 fn seek_all<T: Keyed, I: Movable<T>>(alloc: Global, sources: &mut Vec<I>, key: &[u8]) -> Result<()>
-    ensures sought { OnOk result (map I.moved sources.new.items
-        ≡ map (sought (seek_to (is_below T.key key.now))) (map I.moved sources.old.items)) }
+    ensures sought { OnOk result (map (λ s. but_reads (I.moved s)) sources.new.items
+        ≡ map (sought (seek_to (is_below T.key key.now)))
+        (map (λ s. but_reads (I.moved s)) sources.old.items)) }
     ensures lost { OnErr result (are_known (map I.moved sources.new.items) ≡ false) }
     ensures cause { IfErr result
         (MayStop I.may_fail (merged_moved T.cmp None (map I.moved sources.old.items))) }
+    ensures most { let before = merged_moved T.cmp None (map I.moved sources.old.items) in
+        AsksAtMost before.tables before (merged_moved T.cmp None (map I.moved sources.new.items)) }
 {
     let mut i = 0;
     while i < sources.len() {
@@ -248,11 +275,14 @@ fn seek_upper_all<T: Keyed, I: Movable<T>>(
     sources: &mut Vec<I>,
     key: &[u8],
 ) -> Result<()>
-    ensures sought { OnOk result (map I.moved sources.new.items
-        ≡ map (sought (seek_up_to (is_at_most T.key key.now))) (map I.moved sources.old.items)) }
+    ensures sought { OnOk result (map (λ s. but_reads (I.moved s)) sources.new.items
+        ≡ map (sought (seek_up_to (is_at_most T.key key.now)))
+        (map (λ s. but_reads (I.moved s)) sources.old.items)) }
     ensures lost { OnErr result (are_known (map I.moved sources.new.items) ≡ false) }
     ensures cause { IfErr result
         (MayStop I.may_fail (merged_moved T.cmp None (map I.moved sources.old.items))) }
+    ensures most { let before = merged_moved T.cmp None (map I.moved sources.old.items) in
+        AsksAtMost (2 * before.tables) before (merged_moved T.cmp None (map I.moved sources.new.items)) }
 {
     let mut i = 0;
     while i < sources.len() {
@@ -270,9 +300,9 @@ fn seek_upper_all<T: Keyed, I: Movable<T>>(
 /// step and search returns it again.
 ///
 /// Clauses see the merged list and how many of its items are before the front and before the back,
-/// where those of all sources are known, the errors that reading these may give, and the error that
-/// ended the merge, if one did. A step compares one item of each source, and takes no memory beside
-/// what its source takes.
+/// where those of all sources are known, the errors that reading these may give, the error that ended
+/// the merge, if one did, and how many frames its sources asked for. A step compares one item of each
+/// source, and takes no memory beside what its source takes.
 #[derive(Drop)]
 pub struct MovableMerge<T: Keyed, I: Movable<T>> {
     sources: Vec<I>,
@@ -339,7 +369,7 @@ impl<T: Keyed, I: Movable<T>> MovableMerge<T, I> {
         self.sources[last].last()
     }
 
-    /// Takes the first item left, if there is one.
+    /// Takes the first item left, if there is one. Asks for at most one frame, in memory for none.
     ///
     /// # Errors
     ///
@@ -348,6 +378,7 @@ impl<T: Keyed, I: Movable<T>> MovableMerge<T, I> {
         ensures step { IfOk result (λ r. IsStep next self.old r self.new) }
         ensures ended { StopsBy self.old self.new result }
         ensures cause { IfErr result (MayStop I.may_fail self.old) }
+        ensures most { AsksAtMost (min 1 self.old.tables) self.old self.new }
     {
         if let Some(error) = self.ended {
             return Err(error);
@@ -365,7 +396,7 @@ impl<T: Keyed, I: Movable<T>> MovableMerge<T, I> {
         }
     }
 
-    /// Takes the last item left, if there is one.
+    /// Takes the last item left, if there is one. Asks for at most one frame, in memory for none.
     ///
     /// # Errors
     ///
@@ -374,6 +405,7 @@ impl<T: Keyed, I: Movable<T>> MovableMerge<T, I> {
         ensures step { IfOk result (λ r. IsStep next_back self.old r self.new) }
         ensures ended { StopsBy self.old self.new result }
         ensures cause { IfErr result (MayStop I.may_fail self.old) }
+        ensures most { AsksAtMost (min 1 self.old.tables) self.old self.new }
     {
         if let Some(error) = self.ended {
             return Err(error);
@@ -392,16 +424,17 @@ impl<T: Keyed, I: Movable<T>> MovableMerge<T, I> {
     }
 
     /// Moves the front before the first item of the whole list whose user key is at least `key`, also
-    /// over what was taken. The back stays.
+    /// over what was taken. The back stays. Asks for at most one frame of each table.
     ///
     /// # Errors
     ///
     /// Those of the sources' searches. An error ends the merge, also for steps from the back.
     pub fn seek(&mut self, alloc: Global, key: &[u8]) -> Result<()>
         ensures sought { OnOk result
-            (self.new ≡ sought (seek_to (is_below T.key key.now)) self.old) }
+            (IsSought (seek_to (is_below T.key key.now)) self.old self.new) }
         ensures ended { StopsBy self.old self.new result }
         ensures cause { IfErr result (MayStop I.may_fail self.old) }
+        ensures most { AsksAtMost self.old.tables self.old self.new }
     {
         if let Some(error) = self.ended {
             return Err(error);
@@ -413,16 +446,17 @@ impl<T: Keyed, I: Movable<T>> MovableMerge<T, I> {
     }
 
     /// Moves the back after the last item of the whole list whose user key is at most `key`, also over
-    /// what was taken. The front stays.
+    /// what was taken. The front stays. Asks for at most two frames of each table.
     ///
     /// # Errors
     ///
     /// Those of [`MovableMerge::seek`].
     pub fn seek_upper(&mut self, alloc: Global, key: &[u8]) -> Result<()>
         ensures sought { OnOk result
-            (self.new ≡ sought (seek_up_to (is_at_most T.key key.now)) self.old) }
+            (IsSought (seek_up_to (is_at_most T.key key.now)) self.old self.new) }
         ensures ended { StopsBy self.old self.new result }
         ensures cause { IfErr result (MayStop I.may_fail self.old) }
+        ensures most { AsksAtMost (2 * self.old.tables) self.old self.new }
     {
         if let Some(error) = self.ended {
             return Err(error);

@@ -1,24 +1,27 @@
 //! Tables as sources that are moved.
 ghost use Rattle.std.specs.Prelude.{◌≡◌, ◌+◌, ◌<◌, ◌≤◌, ◌^◌, length, slice_get, IfErr, IfOk, IfSome};
-ghost use Rattle.std.specs.Prelude.{IsOkUnless, None, Some, false, true};
+ghost use Rattle.std.specs.Prelude.{◌*◌, IsOkUnless, None, OnOk, Some, false, min, true};
 ghost use Rattle.std.specs.List.{count_by};
 ghost use Rattle.std.specs.Option.{option_map};
 ghost use Rattle.sst_base.specs.declared.error.Error.TheVariants.{Memory};
 ghost use Rattle.sst_block_core.specs.Window.{items_left, whole};
 ghost use Rattle.sstable_blocks.specs.Blocks.{joined};
 ghost use Rattle.sstable_blocks.specs.RunReading.{hashes};
+ghost use Rattle.sstable_blocks.specs.Sources.{AsksUpTo};
 ghost use Rattle.sst_merge.specs.Merge.{entry_cmp};
 ghost use Rattle.sst_merge.specs.Movable.{is_sought};
 ghost use Rattle.sst_merge.specs.MovableBlocks.{HoldsBack, HoldsFront, TakesFirstOf, TakesLastOf};
 ghost use Rattle.sst_merge.specs.MovableBlocks.{entries_before, entry_key, is_block_sought};
-ghost use Rattle.sst_merge.specs.MovableTables.{AnyStepFails, GoesBack, GoesForth, IsBackAt};
-ghost use Rattle.sst_merge.specs.MovableTables.{IsFrontAt, IsWholeBlock, KeepsTable, OfBlocks};
-ghost use Rattle.sst_merge.specs.MovableTables.{TableStops, end_in, search_from, table_blocks};
+ghost use Rattle.sst_merge.specs.MovableTables.{AnyStepFails, AsksByEnds, AsksWhere, GoesBack};
+ghost use Rattle.sst_merge.specs.MovableTables.{GoesForth, IsBackAt, IsFrontAt, IsWholeBlock};
+ghost use Rattle.sst_merge.specs.MovableTables.{KeepsTable, OfBlocks, TableStops, end_in};
+ghost use Rattle.sst_merge.specs.MovableTables.{later_starts, search_from, table_blocks};
 ghost use Rattle.sst_merge.specs.MovableTables.{table_errors, table_moved};
-ghost use Rattle.sst_merge.specs.Moved.{IsFreshSource};
+ghost use Rattle.sst_merge.specs.Moved.{IsFreshSource, back_frames, front_frames, seek_frames};
+ghost use Rattle.sst_merge.specs.Moved.{seek_upper_frames};
 
 use crate::movable::Movable;
-use crate::open_end::OpenEnd;
+use crate::open_end::{OpenEnd, set_end};
 use crate::source::{keep_error, note_error};
 use sst_base::{BlockHash, Error, InternalValue, Result, Steps};
 use sst_block_core::table::block::bound::Bound;
@@ -85,7 +88,7 @@ fn held_of<H: BlockHash>(end: Option<OpenEnd<IntoEntries<H>>>) -> Option<Interna
     }
 }
 
-// The entries of the block at an index.
+// The entries of the block at an index, whose frame is asked for.
 fn entries_at<H: BlockHash, S: FrameSource>(
     alloc: Global,
     table: &mut Table<H, S>,
@@ -98,6 +101,7 @@ fn entries_at<H: BlockHash, S: FrameSource>(
     ensures whole { IfOk result (λ e. e.window ≡ whole e.window.list) }
     ensures cause { IfErr result
         (TableStops (hashes H.hash64 H.hash128) S.bytes S.is_reliable table.old) }
+    ensures asks { S.reads table.new.source ≡ S.reads table.old.source + 1 }
 {
     match table.block_at(alloc, index, &mut Steps::new()) {
         Ok(block) => Ok(block.into_entries()),
@@ -116,6 +120,8 @@ fn open_front<H: BlockHash, S: FrameSource>(
         (λ blocks. IsFrontAt blocks (entries_before blocks index) o)) }
     ensures cause { IfErr result
         (TableStops (hashes H.hash64 H.hash128) S.bytes S.is_reliable table.old) }
+    ensures asks { AsksWhere (index < length table.old.index) (S.reads table.old.source)
+        (S.reads table.new.source) }
 {
     if index >= table.index().len() {
         return Ok(None);
@@ -135,6 +141,8 @@ fn open_back<H: BlockHash, S: FrameSource>(
         (λ blocks. index ≤ length blocks → IsBackAt blocks (entries_before blocks index) o)) }
     ensures cause { IfErr result
         (TableStops (hashes H.hash64 H.hash128) S.bytes S.is_reliable table.old) }
+    ensures asks { AsksWhere ((1 ≤ index) × (index ≤ length table.old.index))
+        (S.reads table.old.source) (S.reads table.new.source) }
 {
     if index == 0 {
         return Ok(None);
@@ -185,6 +193,9 @@ fn seek_front<H: BlockHash, S: FrameSource>(
         (count_by (is_sought entry_key key.now false) (joined blocks)) o)) }
     ensures cause { IfErr result
         (TableStops (hashes H.hash64 H.hash128) S.bytes S.is_reliable table.old) }
+    ensures most { AsksUpTo 1 result (S.reads table.old.source) (S.reads table.new.source) }
+    ensures asks { IfOk result (λ o. AsksByEnds (hashes H.hash64 H.hash128) S.bytes S.reads
+        seek_frames table.old table.new o None) }
 {
     let index = blocks_passed(table, key, false);
     if index >= table.index().len() {
@@ -207,6 +218,9 @@ fn seek_back<H: BlockHash, S: FrameSource>(
         (count_by (is_sought entry_key key.now true) (joined blocks)) o)) }
     ensures cause { IfErr result
         (TableStops (hashes H.hash64 H.hash128) S.bytes S.is_reliable table.old) }
+    ensures most { AsksUpTo 2 result (S.reads table.old.source) (S.reads table.new.source) }
+    ensures asks { IfOk result (λ o. AsksByEnds (hashes H.hash64 H.hash128) S.bytes S.reads
+        seek_upper_frames table.old table.new None o) }
 {
     let index = blocks_passed(table, key, true);
     if index >= table.index().len() {
@@ -236,6 +250,9 @@ fn go_forth<H: BlockHash, S: FrameSource>(
         (GoesForth front.old front.new r)) }
     ensures cause { IfErr result
         (TableStops (hashes H.hash64 H.hash128) S.bytes S.is_reliable table.old) }
+    ensures most { AsksUpTo 1 result (S.reads table.old.source) (S.reads table.new.source) }
+    ensures asks { OnOk result (AsksByEnds (hashes H.hash64 H.hash128) S.bytes S.reads
+        front_frames table.old table.new front.new None) }
 {
     let Some(open) = front else {
         return Ok(None);
@@ -261,6 +278,9 @@ fn go_back<H: BlockHash, S: FrameSource>(
         (GoesBack back.old back.new r)) }
     ensures cause { IfErr result
         (TableStops (hashes H.hash64 H.hash128) S.bytes S.is_reliable table.old) }
+    ensures most { AsksUpTo 1 result (S.reads table.old.source) (S.reads table.new.source) }
+    ensures asks { OnOk result (AsksByEnds (hashes H.hash64 H.hash128) S.bytes S.reads
+        back_frames table.old table.new None back.new) }
 {
     let Some(open) = back else {
         return Ok(None);
@@ -279,7 +299,8 @@ fn go_back<H: BlockHash, S: FrameSource>(
 ///
 /// Clauses see the list of its entries with the places of the ends, where the table's bytes are known,
 /// each of its blocks is read, and these are in order and end as the index says, as those of a sound
-/// run do; the errors that reading the blocks may give, and the error that ended it, if one did.
+/// run do; the errors that reading the blocks may give, and the error that ended it, if one did; how
+/// many frames its source was asked for, and the places at which its blocks begin.
 #[derive(Drop)]
 pub struct MovableTable<H: BlockHash, S: FrameSource> {
     table: Table<H, S>,
@@ -297,16 +318,43 @@ impl<H: BlockHash, S: FrameSource> Model for MovableTable<H, S> {
 
     ghost Value = { Moved Entry };
 
-    ghost view = { λ t. table_moved (hashes H.hash64 H.hash128) S.bytes t.table t.front t.back
-        t.ended };
+    ghost view = { λ t. table_moved (hashes H.hash64 H.hash128) S.bytes S.reads t.table t.front
+        t.back t.ended };
 
     ghost invariant = { λ t. IfSome (unless_ended t.ended
         (table_blocks (hashes H.hash64 H.hash128) (S.bytes t.table.source) t.table.index))
         (AreTableEnds t.front t.back) };
 }
 
+// Opens the first and the last block, if there is one.
+fn open_ends<H: BlockHash, S: FrameSource>(
+    alloc: Global,
+    table: &mut Table<H, S>,
+) -> Result<
+    (
+        Option<OpenEnd<IntoEntries<H>>>,
+        Option<OpenEnd<IntoEntries<H>>>,
+    ),
+>
+    ensures same { KeepsTable S.bytes table.old table.new }
+    ensures front { IfOk result (λ ends. OfBlocks (hashes H.hash64 H.hash128) S.bytes table.old
+        (λ blocks. IsFrontAt blocks 0 ends.0)) }
+    ensures back { IfOk result (λ ends. OfBlocks (hashes H.hash64 H.hash128) S.bytes table.old
+        (λ blocks. IsBackAt blocks (length (joined blocks)) ends.1)) }
+    ensures cause { IfErr result
+        (TableStops (hashes H.hash64 H.hash128) S.bytes S.is_reliable table.old) }
+    ensures asks { OnOk result (S.reads table.new.source
+        ≡ S.reads table.old.source + 2 * min 1 (length table.old.index)) }
+{
+    let front = open_front(alloc, table, 0)?;
+    let count = table.index().len();
+    let back = open_back(alloc, table, count)?;
+    Ok((front, back))
+}
+
 impl<H: BlockHash, S: FrameSource + Drop> MovableTable<H, S> {
-    /// Opens the first and the last block of a table. The ends are those of its list.
+    /// Opens the first and the last block of a table. The ends are those of its list. Two frames are
+    /// asked for, also where it has one block, and none where it has no block.
     ///
     /// # Errors
     ///
@@ -321,11 +369,14 @@ impl<H: BlockHash, S: FrameSource + Drop> MovableTable<H, S> {
         ensures going { IfOk result (λ t. t.ended ≡ None) }
         ensures cause { IfErr result
             (TableStops (hashes H.hash64 H.hash128) S.bytes S.is_reliable table) }
+        ensures tables { IfOk result (λ t. t.tables ≡ 1) }
+        ensures starts { IfOk result (λ t. t.starts ≡ later_starts
+            (table_blocks (hashes H.hash64 H.hash128) (S.bytes table.source) table.index)) }
+        ensures asks { IfOk result
+            (λ t. t.reads ≡ S.reads table.source + 2 * min 1 (length table.index)) }
     {
         let mut table = table;
-        let front = open_front(alloc, &mut table, 0)?;
-        let count = table.index().len();
-        let back = open_back(alloc, &mut table, count)?;
+        let (front, back) = open_ends(alloc, &mut table)?;
         Ok(MovableTable {
             table,
             front,
@@ -387,7 +438,7 @@ impl<H: BlockHash, S: FrameSource> Movable<InternalValue> for MovableTable<H, S>
         }
         match seek_front(alloc, &mut self.table, key) {
             Ok(front) => {
-                self.front = front;
+                set_end(&mut self.front, front);
                 Ok(())
             }
             Err(error) => Err(note_error(&mut self.ended, &error)),
@@ -400,7 +451,7 @@ impl<H: BlockHash, S: FrameSource> Movable<InternalValue> for MovableTable<H, S>
         }
         match seek_back(alloc, &mut self.table, key) {
             Ok(back) => {
-                self.back = back;
+                set_end(&mut self.back, back);
                 Ok(())
             }
             Err(error) => Err(note_error(&mut self.ended, &error)),

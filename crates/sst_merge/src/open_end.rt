@@ -1,5 +1,5 @@
 //! A block of a table that is open at an end.
-ghost use Rattle.std.specs.Prelude.{◌+◌, ◌<◌, ◌^◌};
+ghost use Rattle.std.specs.Prelude.{◌≡◌, ◌+◌, ◌<◌, ◌^◌};
 
 use sst_base::InternalValue;
 
@@ -12,4 +12,11 @@ pub(crate) struct OpenEnd<E> {
     pub(crate) left: E,
     pub(crate) held: InternalValue,
     ghost few: { block + 1 < 2 ^ 64 },
+}
+
+/// Puts an end in place of another, which is dropped with its block.
+pub(crate) fn set_end<E: Drop>(end: &mut Option<OpenEnd<E>>, new: Option<OpenEnd<E>>)
+    ensures { end.new ≡ new }
+{
+    *end = new;
 }

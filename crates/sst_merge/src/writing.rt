@@ -1,5 +1,5 @@
 //! Writing what is left of a source as tables.
-ghost use Rattle.std.specs.Prelude.{◌≡◌, ◌+◌, ◌≤◌, ◌<◌, ◌++◌, ◌∷◌, [], ◌⊎◌, ℕ, false, true};
+ghost use Rattle.std.specs.Prelude.{◌≡◌, ◌+◌, ◌≤◌, ◌<◌, [], ◌⊎◌, ℕ, false, true};
 ghost use Rattle.std.specs.Prelude.{None, length, map, IfErr, IfOk, OnOk, IfSome, IfNone};
 ghost use Rattle.sstable_blocks.specs.Run.{form, IsWritable};
 ghost use Rattle.sstable_blocks.specs.Scans.{EndsBy};
@@ -74,7 +74,6 @@ fn add_block<H: BlockHash, T: Ranked + AsEntry + Drop, I: Source<T>, W: Output>(
     ensures added { OnOk result (AddsBlock run.old run.new (map T.entry block.new.items)) }
     ensures taken { OnOk result
         (TakesBlock T.entry interval size source.old block.new.items source.new) }
-    ensures some { OnOk result (1 ≤ length block.new.items) }
     ensures cause { IfErr result (MayNotAdd I.may_fail (W.never_fails run.old.writer → ⊥) T.entry
         (form H.hash64 H.hash128 run.old.config) run.old.blocks interval size source.old
         block.new.items source.new) }

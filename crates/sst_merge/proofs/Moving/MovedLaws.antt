@@ -1,9 +1,11 @@
 -- Laws of merges of sources that are moved, where their lists may be unknown.
-use Rattle.std.proofs.Common.{◌≡◌, ℕ, zero, suc, ◌+◌, ◌-◌, ◌<◌, ◌≤◌, Bool, true, false, cond, List, [], ◌∷◌, length, map, get_or, Option, Some, None, slice_get, refl, sym, ap, subst, ◌∙◌, inl, inr, arith}
+use Rattle.std.proofs.Common.{◌≡◌, ℕ, zero, suc, ◌+◌, ◌-◌, ◌*◌, ◌<◌, ◌≤◌, min, Bool, true, false, cond, List, [], ◌∷◌, length, map, drop, get_or, Option, Some, None, slice_get, refl, sym, ap, subst, ◌∙◌, inl, inr, arith}
 use Rattle.std.proofs.lemmas.List.{length-map, get_or-map, map-set, set-get_or}
+use Rattle.std.proofs.lemmas.List.Sums.{sum_by-cons, sum_by-set}
 use Rattle.std.proofs.Math.ListN.{set}
+use Rattle.std.proofs.Math.Seq.{drop-cons}
 use Rattle.std.specs.Cmp.{IsTotalOrder}
-use Rattle.std.specs.List.{AllByRecursion}
+use Rattle.std.specs.List.{AllByRecursion, sum_by}
 use Rattle.std.specs.Option.{option_map, IfSome}
 use Rattle.std.specs.Prelude.{if◌then◌else◌}
 use Rattle.std.specs.declared.cmp.Ordering.{Ordering}
@@ -13,7 +15,7 @@ use Rattle.sst_block_core.specs.Window.{Window, whole, some_left, first_left, la
 use Rattle.sst_block_core.specs.WindowLaws.{item_same}
 use Rattle.sst_merge.specs.ErrorLaws.{met_under, one_of_all}
 use Rattle.sst_merge.specs.Movable.{AreMoved, IsBackAmong, IsBackPick, IsFresh, IsFrontAmong, IsFrontPick, TakesBack, TakesFront, changed_until, goes_after, goes_before, item_before, merged_window}
-use Rattle.sst_merge.specs.Moved.{IsFreshSource, IsStep, MayStop, Moved, all_some, are_known, merged_moved, moved_errors, sought, step_back, step_front, unless_ended, window_or_empty, windows}
+use Rattle.sst_merge.specs.Moved.{AsksAtMost, IsFreshSource, IsSought, IsStep, MayStop, Moved, all_some, are_known, but_reads, merged_moved, moved_errors, sought, step_back, step_front, unless_ended, window_or_empty, windows}
 use Rattle.sst_merge.specs.Sources.{errors_of}
 use Rattle.sst_merge.proofs.Moving.MovableLaws.{back_done, back_empty, back_ends, back_is, back_kept, back_start, back_turn, changed_next, first_is, front_done, front_start, front_turn, last_is, not_changed, next_empty, next_ends, next_is, next_kept}
 
@@ -66,12 +68,51 @@ module _ {X : Type 0} where
       map-set (λ (k : Moved X). moved_errors k) ms p n ∙ ap (set (map (λ (k : Moved X). moved_errors k) ms) p) (same ∙ errors_at ms p m inside is)
       ∙ set-get_or (map (λ (k : Moved X). moved_errors k) ms) p (moved_errors m)
 
-  pub moved_by : (a b : Moved X) → a.window ≡ b.window → a.errors ≡ b.errors → a.ended ≡ b.ended → a ≡ b
-  moved_by a b p q r =
-      let window_to : Option (Window X) → Moved X = λ w. record { window = w; errors = a.errors; ended = a.ended } in
-      let errors_to : Option (List Error) → Moved X = λ e. record { window = b.window; errors = e; ended = a.ended } in
-      let ended_to : Option Error → Moved X = λ e. record { window = b.window; errors = b.errors; ended = e } in
-      ap window_to p ∙ ap errors_to q ∙ ap ended_to r
+  -- a sum over sources of which one is exchanged
+  sum_kept : (f : Moved X → ℕ) (ms : List (Moved X)) (p : ℕ) (m n : Moved X) → p < length ms → m ≡ get_or ms p m → f n ≡ f m → sum_by f (set ms p n) ≡ sum_by f ms
+  sum_kept f ms p m n inside is same = (let e = sum_by-set f ms p n m inside in let d = ap f is in omega (arith, e, d, same))
+
+  -- one of the terms of a sum
+  one_of_sum : (f : Moved X → ℕ) (ms : List (Moved X)) (p : ℕ) (m : Moved X) → p < length ms → m ≡ get_or ms p m → f m ≤ sum_by f ms
+  one_of_sum f [] p m inside is = absurd (omega (arith, inside))
+  one_of_sum f (k ∷ ms) zero m inside is = (let e = sum_by-cons f k ms in let d = ap f is in omega (arith, e, d))
+  one_of_sum f (k ∷ ms) (suc p) m inside is = (let e = sum_by-cons f k ms in let h = one_of_sum f ms p m (omega (arith, inside)) is in omega (arith, e, h))
+
+  -- sources that are the same but for their counts of frames
+  pub moved_by : (a b : Moved X) → a.window ≡ b.window → a.errors ≡ b.errors → a.ended ≡ b.ended → a.tables ≡ b.tables → a.starts ≡ b.starts → but_reads a ≡ but_reads b
+  moved_by a b p q r s t =
+      let window_to : Option (Window X) → Moved X = λ w. record { window = w; errors = a.errors; ended = a.ended; reads = 0; tables = a.tables; starts = a.starts } in
+      let errors_to : Option (List Error) → Moved X = λ e. record { window = b.window; errors = e; ended = a.ended; reads = 0; tables = a.tables; starts = a.starts } in
+      let ended_to : Option Error → Moved X = λ e. record { window = b.window; errors = b.errors; ended = e; reads = 0; tables = a.tables; starts = a.starts } in
+      let tables_to : ℕ → Moved X = λ n. record { window = b.window; errors = b.errors; ended = b.ended; reads = 0; tables = n; starts = a.starts } in
+      let starts_to : List ℕ → Moved X = λ ns. record { window = b.window; errors = b.errors; ended = b.ended; reads = 0; tables = b.tables; starts = ns } in
+      ap window_to p ∙ ap errors_to q ∙ ap ended_to r ∙ ap tables_to s ∙ ap starts_to t
+
+  -- sources, but for how many frames they asked for
+  abbrev unread : List (Moved X) → List (Moved X)
+  unread ms = map (λ (m : Moved X). but_reads m) ms
+
+  windows_unread : (ms : List (Moved X)) → windows (unread ms) ≡ windows ms
+  windows_unread [] = refl
+  windows_unread (m ∷ ms) = ap (λ ws. window_or_empty m.window ∷ ws) (windows_unread ms)
+
+  known_unread : (ms : List (Moved X)) → are_known (unread ms) ≡ are_known ms
+  known_unread [] = refl
+  known_unread (m ∷ ms) = ap (all_some m.window) (known_unread ms)
+
+  errors_unread : (ms : List (Moved X)) → map (λ (k : Moved X). moved_errors k) (unread ms) ≡ map (λ (k : Moved X). moved_errors k) ms
+  errors_unread [] = refl
+  errors_unread (m ∷ ms) = ap (λ es. moved_errors m ∷ es) (errors_unread ms)
+
+  tables_unread : (ms : List (Moved X)) → sum_by (λ (k : Moved X). k.tables) (unread ms) ≡ sum_by (λ (k : Moved X). k.tables) ms
+  tables_unread [] = refl
+  tables_unread (m ∷ ms) = sum_by-cons (λ (k : Moved X). k.tables) (but_reads m) (unread ms) ∙ ap (λ n. m.tables + n) (tables_unread ms) ∙ sym (sum_by-cons (λ (k : Moved X). k.tables) m ms)
+
+  merged_unread : (cmp : X → X → Ordering) (ms : List (Moved X)) → but_reads (merged_moved cmp None (unread ms)) ≡ but_reads (merged_moved cmp None ms)
+  merged_unread cmp ms =
+      moved_by (merged_moved cmp None (unread ms)) (merged_moved cmp None ms)
+      (ap (λ (ws : List (Window X)). if are_known (unread ms) then Some (merged_window cmp ws) else None) (windows_unread ms) ∙ ap (λ (k : Bool). if k then Some (merged_window cmp (windows ms)) else None) (known_unread ms))
+      (ap errors_of (errors_unread ms)) refl (tables_unread ms) refl
 
   -- a step of a window, where it is known
   stepped : (step : Step X) (k j : Bool) (b a : Window X) (r : Option X) → j ≡ k → (k ≡ true → (a, item r) ≡ step b)
@@ -132,14 +173,15 @@ module _ {X : Type 0} (cmp : X → X → Ordering) (order : IsTotalOrder cmp) (m
       let s = stepped step (are_known ms) (are_known (set ms p n)) (merged_window cmp (windows ms)) (merged_window cmp (windows (set ms p n))) r same is_step in
       let old = merged_moved cmp None ms in
       let errors = ap errors_of (errors_set ms p m n inside is (ap (λ (k : Moved X). moved_errors k) h.moved)) in
-      record { moved = moved_by (merged_moved cmp None (set ms p n)) (record old { window = option_map (λ w. (step w).0) old.window }) s.0 errors refl; item_is = s.1 }
+      let tables = sum_kept (λ (k : Moved X). k.tables) ms p m n inside is (ap (λ (k : Moved X). k.tables) h.moved) in
+      record { moved = moved_by (merged_moved cmp None (set ms p n)) (record old { window = option_map (λ w. (step w).0) old.window }) s.0 errors refl tables refl; item_is = s.1 }
 
   -- or where none is left
   no_step : (step : Step X) → (are_known ms ≡ true → (merged_window cmp (windows ms), item None) ≡ step (merged_window cmp (windows ms))) → IsStep step (merged_moved cmp None ms) None (merged_moved cmp None ms)
   no_step step is_step =
       let s = stepped step (are_known ms) (are_known ms) (merged_window cmp (windows ms)) (merged_window cmp (windows ms)) None refl is_step in
       let old = merged_moved cmp None ms in
-      record { moved = moved_by old (record old { window = option_map (λ w. (step w).0) old.window }) s.0 refl refl; item_is = s.1 }
+      record { moved = moved_by old (record old { window = option_map (λ w. (step w).0) old.window }) s.0 refl refl refl refl; item_is = s.1 }
 
   module _ (p : ℕ) (m : Moved X) (inside : p < length ms) (is : m ≡ get_or ms p m) where
     -- the answer of the source, where its window is known
@@ -239,12 +281,21 @@ module _ {X : Type 0} (cmp : X → X → Ordering) (f : Window X → Window X) (
   found_window false true b a same h = absurd (cc)
   found_window false false b a same h = refl
 
+  tables_sought : (ms : List (Moved X)) → sum_by (λ (k : Moved X). k.tables) (map (sought f) ms) ≡ sum_by (λ (k : Moved X). k.tables) ms
+  tables_sought [] = refl
+  tables_sought (m ∷ ms) = sum_by-cons (λ (k : Moved X). k.tables) (sought f m) (map (sought f) ms) ∙ ap (λ n. m.tables + n) (tables_sought ms) ∙ sym (sum_by-cons (λ (k : Moved X). k.tables) m ms)
+
   -- the merge of them is sought in
-  pub merged_sought : (ms : List (Moved X)) → (are_known ms ≡ true → merged_window cmp (map f (windows ms)) ≡ f (merged_window cmp (windows ms))) → merged_moved cmp None (map (sought f) ms) ≡ sought f (merged_moved cmp None ms)
+  pub merged_sought : (ms : List (Moved X)) → (are_known ms ≡ true → merged_window cmp (map f (windows ms)) ≡ f (merged_window cmp (windows ms))) → but_reads (merged_moved cmp None (map (sought f) ms)) ≡ but_reads (sought f (merged_moved cmp None ms))
   merged_sought ms is =
       moved_by (merged_moved cmp None (map (sought f) ms)) (sought f (merged_moved cmp None ms))
       (found_window (are_known ms) (are_known (map (sought f) ms)) (merged_window cmp (windows ms)) (merged_window cmp (windows (map (sought f) ms))) (known_sought ms) (λ known. ap (merged_window cmp) (windows_sought ms) ∙ is known))
-      (ap errors_of (errors_sought ms)) refl
+      (ap errors_of (errors_sought ms)) refl (tables_sought ms) refl
+
+-- sources that are seen but for their counts of frames
+unread_moved : {S X : Type 0} (moved : S → Moved X) (ss : List S) → map (λ s. but_reads (moved s)) ss ≡ unread (map moved ss)
+unread_moved moved [] = refl
+unread_moved moved (s ∷ ss) = ap (λ ms. but_reads (moved s) ∷ ms) (unread_moved moved ss)
 
 -- one source more was changed, and the next one was not yet
 module _ {S A : Type 0} (see : S → A) (f : A → A) (old ss : List S) (k : ℕ) (s : S) (inside : k < length ss) (size : length ss ≡ length old) (is : s ≡ get_or ss k s) (so_far : map see ss ≡ changed_until f k (map see old)) where
@@ -313,16 +364,87 @@ pub lost_source : {S X : Type 0} (moved : S → Moved X) (ss : List S) (i : ℕ)
 lost_source moved ss i t inside none = ap are_known (map-set moved ss i t) ∙ lost_set (map moved ss) i (moved t) (let n = length-map ss moved in omega (arith, n, inside)) none
 
 -- what the next source may fail by, the merge may, where those before it were changed
-pub stop_first : {S X : Type 0} (cmp : X → X → Ordering) (order : IsTotalOrder cmp) (moved : S → Moved X) (f : Moved X → Moved X) (old ss : List S) (k : ℕ) (s : S) → k < length ss → length ss ≡ length old → s ≡ get_or ss k s → map moved ss ≡ changed_until f k (map moved old)
+pub stop_first : {S X : Type 0} (cmp : X → X → Ordering) (order : IsTotalOrder cmp) (moved : S → Moved X) (f : Moved X → Moved X) (old ss : List S) (k : ℕ) (s : S) → k < length ss → length ss ≡ length old → s ≡ get_or ss k s → map (λ t. but_reads (moved t)) ss ≡ changed_until f k (map (λ t. but_reads (moved t)) old)
     → (may_fail : Error → Type 0) (e : Error) → MayStop may_fail (moved s) e → MayStop may_fail (merged_moved cmp None (map moved old)) e
-stop_first cmp order moved f old ss k s inside size is so_far may_fail e h =
-    let n = length-map old moved in
-    stop_by cmp (map moved old) k (moved s) (omega (arith, n, inside, size)) (still_first moved f old ss k s inside size is so_far) may_fail e h
+stop_first {S = S} cmp order moved f old ss k s inside size is so_far may_fail e h =
+    let see = λ (t : S). but_reads (moved t) in
+    let n = length-map old see in
+    subst (λ m. MayStop may_fail m e) (ap (λ ms. but_reads (merged_moved cmp None ms)) (unread_moved moved old) ∙ merged_unread cmp (map moved old))
+    (stop_by cmp (map see old) k (see s) (omega (arith, n, inside, size)) (still_first see f old ss k s inside size is so_far) may_fail e h)
+
+-- the next source is as it was, but for how many frames it asked for
+pub same_tables : {S X : Type 0} (moved : S → Moved X) (f : Moved X → Moved X) (old ss : List S) (k : ℕ) (s : S) → k < length ss → length ss ≡ length old → s ≡ get_or ss k s → map (λ t. but_reads (moved t)) ss ≡ changed_until f k (map (λ t. but_reads (moved t)) old) → but_reads (moved s) ≡ but_reads (moved (get_or old k s))
+same_tables {S = S} moved f old ss k s inside size is so_far =
+    let see = λ (t : S). but_reads (moved t) in
+    still_first see f old ss k s inside size is so_far ∙ get_or-map see old k s (see s) (omega (arith, inside, size))
+
+-- How many frames are asked for by sources that are sought in one after the other: each asks for at most so many.
+module _ {S X : Type 0} (moved : S → Moved X) (f : Moved X → ℕ) where
+  abbrev pub all_reads : List S → ℕ
+  all_reads ss = sum_by (λ (s : S). (moved s).reads) ss
+
+  abbrev pub most_of : List S → ℕ
+  most_of ss = sum_by (λ (s : S). f (moved s)) ss
+
+  mapped_sum : (g : Moved X → ℕ) (ss : List S) → sum_by g (map moved ss) ≡ sum_by (λ s. g (moved s)) ss
+  mapped_sum g [] = refl
+  mapped_sum g (s ∷ ss) = sum_by-cons g (moved s) (map moved ss) ∙ ap (λ n. g (moved s) + n) (mapped_sum g ss) ∙ sym (sum_by-cons (λ (t : S). g (moved t)) s ss)
+
+  -- none was sought in yet
+  pub asked_none : (old : List S) → all_reads old + most_of (drop 0 old) ≤ all_reads old + most_of old
+  asked_none [] = omega arith
+  asked_none (s ∷ ss) = omega arith
+
+  module _ (old ss : List S) (k : ℕ) (s t : S) (inside : k < length ss) (size : length ss ≡ length old) (is : s ≡ get_or ss k s) where
+    reads_set : all_reads (set ss k t) + (moved s).reads ≡ all_reads ss + (moved t).reads
+    reads_set = (let e = sum_by-set (λ (u : S). (moved u).reads) ss k t s inside in let d = ap (λ (u : S). (moved u).reads) is in omega (arith, e, d))
+
+    -- one more was sought in
+    pub asked_more : f (moved s) ≡ f (moved (get_or old k s)) → (moved t).reads ≤ (moved s).reads + f (moved s) → all_reads ss + most_of (drop k old) ≤ all_reads old + most_of old
+        → all_reads (set ss k t) + most_of (drop (k + 1) old) ≤ all_reads old + most_of old
+    asked_more same most so_far =
+        let e = reads_set in
+        let l = ap most_of (drop-cons old k s (omega (arith, inside, size))) in
+        let c = sum_by-cons (λ (u : S). f (moved u)) (get_or old k s) (drop (suc k) old) in
+        let n : most_of (drop (k + 1) old) ≡ most_of (drop (suc k) old) = ap (λ m. most_of (drop m old)) (let d : k + 1 ≡ suc k = omega arith in d) in
+        omega (arith, e, l, c, n, same, most, so_far)
+
+    pub asked_grows : (moved s).reads ≤ (moved t).reads → all_reads old ≤ all_reads ss → all_reads old ≤ all_reads (set ss k t)
+    asked_grows less so_far = (let e = reads_set in omega (arith, e, less, so_far))
+
+  -- what was asked for in all
+  pub asked_all : (cmp : X → X → Ordering) (n rest : ℕ) (old ss : List S) → most_of old ≡ n → all_reads old ≤ all_reads ss → all_reads ss + rest ≤ all_reads old + most_of old → AsksAtMost n (merged_moved cmp None (map moved old)) (merged_moved cmp None (map moved ss))
+  asked_all cmp n rest old ss is grows most =
+      let a = mapped_sum (λ m. m.reads) old in
+      let b = mapped_sum (λ m. m.reads) ss in
+      record { grows = omega (arith, a, b, grows); most = omega (arith, a, b, is, most); none = tt }
+
+-- each asks for at most one frame of a table, or for at most two
+abbrev pub once : {X : Type 0} → Moved X → ℕ
+once m = m.tables
+
+abbrev pub twice : {X : Type 0} → Moved X → ℕ
+twice m = 2 * m.tables
+
+pub asked_once : {S X : Type 0} (moved : S → Moved X) (ss : List S) → most_of moved once ss ≡ sum_by (λ (m : Moved X). m.tables) (map moved ss)
+asked_once {X = X} moved ss = sym (mapped_sum moved once (λ (m : Moved X). m.tables) ss)
+
+pub asked_twice : {S X : Type 0} (moved : S → Moved X) (ss : List S) → most_of moved twice ss ≡ 2 * sum_by (λ (m : Moved X). m.tables) (map moved ss)
+asked_twice moved [] = refl
+asked_twice {S = S} {X = X} moved (s ∷ ss) =
+    let a = sum_by-cons (λ (t : S). 2 * (moved t).tables) s ss in
+    let b = sum_by-cons (λ (m : Moved X). m.tables) (moved s) (map moved ss) in
+    let h = asked_twice moved ss in
+    omega (arith, a, b, h)
 
 -- The steps of a merge that no error has ended.
 module _ {S X : Type 0} (cmp : X → X → Ordering) (order : IsTotalOrder cmp) (moved : S → Moved X) (ss : List S) (kept : are_known (map moved ss) ≡ true → AreMoved cmp (windows (map moved ss))) (ended : Option Error) (going : ended ≡ None) (all : Moved X) (whole_is : merged_moved cmp ended (map moved ss) ≡ all) where
   from_start : merged_moved cmp None (map moved ss) ≡ all
   from_start = ap (λ e. merged_moved cmp e (map moved ss)) (sym going) ∙ whole_is
+
+  -- the frames that are asked for are counted
+  pub asks_as : (most : ℕ → ℕ) (later : Option Error) (ts : List S) → AsksAtMost (most (merged_moved cmp None (map moved ss)).tables) (merged_moved cmp None (map moved ss)) (merged_moved cmp None (map moved ts)) → AsksAtMost (most all.tables) all (merged_moved cmp later (map moved ts))
+  asks_as most later ts h = subst (λ (m : Moved X). AsksAtMost (most m.tables) m (merged_moved cmp later (map moved ts))) from_start (record { grows = h.grows; most = h.most; none = tt })
 
   no_items : (step : Step X) → IsStep step (merged_moved cmp None (map moved ss)) None (merged_moved cmp None (map moved ss)) → IsStep step all None all
   no_items step h = subst (λ m. IsStep step m None m) from_start h
@@ -372,18 +494,38 @@ module _ {S X : Type 0} (cmp : X → X → Ordering) (order : IsTotalOrder cmp) 
     pub keeps_lost : (t : S) → (moved t).window ≡ None → are_known (map moved (set ss p t)) ≡ true → AreMoved cmp (windows (map moved (set ss p t)))
     keeps_lost t none = kept_by t (lost_kept cmp order (map moved ss) kept p (moved s) there here (moved t) none)
 
+    pub asks_one : (later : Option Error) (t : S) → AsksAtMost (min 1 (moved s).tables) (moved s) (moved t) → AsksAtMost (min 1 all.tables) all (merged_moved cmp later (map moved (set ss p t)))
+    asks_one later t h =
+        let a = sum_by-set (λ (m : Moved X). m.reads) (map moved ss) p (moved t) (moved s) there in
+        let b = ap (λ (m : Moved X). m.reads) here in
+        let d = ap (λ ms. sum_by (λ (m : Moved X). m.reads) ms) (map-set moved ss p t) in
+        let e = one_of_sum (λ (m : Moved X). m.tables) (map moved ss) p (moved s) there here in
+        let grows = h.grows in
+        let most = h.most in
+        asks_as (min 1) later (set ss p t) (record { grows = omega (arith, a, b, d, grows); most = omega (arith, a, b, d, e, most); none = tt })
+
     pub stops_by : (may_fail : Error → Type 0) (e : Error) → MayStop may_fail (moved s) e → MayStop may_fail all e
     stops_by may_fail e h = subst (λ m. MayStop may_fail m e) from_start (stop_by cmp (map moved ss) p (moved s) there here may_fail e h)
 
   -- all sources were sought in
-  pub seeks_merge : (f : Window X → Window X) (ns : List (Moved X)) → f (whole []) ≡ whole [] → (are_known (map moved ss) ≡ true → merged_window cmp (map f (windows (map moved ss))) ≡ f (merged_window cmp (windows (map moved ss)))) → ns ≡ map (sought f) (map moved ss)
-      → merged_moved cmp ended ns ≡ sought f all
-  seeks_merge f ns none is now = ap (λ e. merged_moved cmp e ns) going ∙ ap (merged_moved cmp None) now ∙ merged_sought cmp f none (map moved ss) is ∙ ap (sought f) from_start
+  module _ (f : Window X → Window X) (ts : List S) (none : f (whole []) ≡ whole []) (now : map (λ t. but_reads (moved t)) ts ≡ map (sought f) (map (λ s. but_reads (moved s)) ss)) where
+    all_sought : unread (map moved ts) ≡ map (sought f) (unread (map moved ss))
+    all_sought = sym (unread_moved moved ts) ∙ now ∙ ap (map (sought f)) (unread_moved moved ss)
 
-  pub seeks_kept : (f : Window X → Window X) (ns : List (Moved X)) → f (whole []) ≡ whole [] → (are_known (map moved ss) ≡ true → AreMoved cmp (map f (windows (map moved ss)))) → ns ≡ map (sought f) (map moved ss) → are_known ns ≡ true → AreMoved cmp (windows ns)
-  seeks_kept f ns none is now =
-      subst (λ ms. are_known ms ≡ true → AreMoved cmp (windows ms)) (sym now)
-      (λ known. subst (AreMoved cmp) (sym (windows_sought cmp f none (map moved ss))) (is (sym (known_sought cmp f none (map moved ss)) ∙ known)))
+    pub seeks_merge : (are_known (map moved ss) ≡ true → merged_window cmp (map f (windows (map moved ss))) ≡ f (merged_window cmp (windows (map moved ss)))) → IsSought f all (merged_moved cmp ended (map moved ts))
+    seeks_merge is =
+        let ms = map moved ss in
+        ap (λ e. but_reads (merged_moved cmp e (map moved ts))) going ∙ sym (merged_unread cmp (map moved ts)) ∙ ap (λ ks. but_reads (merged_moved cmp None ks)) all_sought
+        ∙ merged_sought cmp f none (unread ms) (λ known. subst (λ ws. merged_window cmp (map f ws) ≡ f (merged_window cmp ws)) (sym (windows_unread ms)) (is (sym (known_unread ms) ∙ known)))
+        ∙ ap (sought f) (merged_unread cmp ms) ∙ ap (λ m. sought f (but_reads m)) from_start
+
+    pub seeks_kept : (are_known (map moved ss) ≡ true → AreMoved cmp (map f (windows (map moved ss)))) → are_known (map moved ts) ≡ true → AreMoved cmp (windows (map moved ts))
+    seeks_kept is known =
+        let ms = map moved ss in
+        let ns = map moved ts in
+        let windows_are : windows ns ≡ map f (windows ms) = sym (windows_unread ns) ∙ ap (λ ks. windows ks) all_sought ∙ windows_sought cmp f none (unread ms) ∙ ap (map f) (windows_unread ms) in
+        let same : are_known ns ≡ are_known ms = sym (known_unread ns) ∙ ap (λ ks. are_known ks) all_sought ∙ known_sought cmp f none (unread ms) ∙ known_unread ms in
+        subst (AreMoved cmp) (sym windows_are) (is (sym same ∙ known))
 
   pub stops_merge : (may_fail : Error → Type 0) (e : Error) → MayStop may_fail (merged_moved cmp None (map moved ss)) e → MayStop may_fail all e
   stops_merge may_fail e h = subst (λ m. MayStop may_fail m e) from_start h

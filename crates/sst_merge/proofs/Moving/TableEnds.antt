@@ -20,7 +20,7 @@ use Rattle.sst_block_core.specs.Entries.{entries}
 use Rattle.sst_block_core.specs.Handles.{Handle, handles}
 use Rattle.sst_block_core.specs.Kind.{IsOrdered}
 use Rattle.sst_block_core.specs.VersionLaws.{keys_equal}
-use Rattle.sst_block_core.specs.Window.{Answer, Window, count_passed, item, items_left, passes, seek, seek_upper, whole}
+use Rattle.sst_block_core.specs.Window.{Answer, Window, count_passed, items_left, passes, seek, seek_upper, whole}
 use Rattle.sstable_blocks.specs.Blocks.{IsNotEmpty, joined}
 use Rattle.sstable_blocks.specs.BoundLaws.{below_is, up_to_is}
 use Rattle.sstable_blocks.specs.Opened.{range_of}
@@ -29,18 +29,17 @@ use Rattle.sstable_blocks.specs.Sources.{FailsAs}
 use Rattle.sstable_blocks.specs.Tables.{TableParts}
 use Rattle.sst_merge.specs.FailureLaws.{is_memory, reports_itself, source_met}
 use Rattle.sst_merge.specs.Merge.{entry_cmp}
-use Rattle.sst_merge.specs.ErrorLaws.{among_left, among_right, met_under}
-use Rattle.sst_merge.specs.Movable.{IsFresh, is_sought, item_before, seek_to, seek_up_to}
+use Rattle.sst_merge.specs.ErrorLaws.{among_left, among_right}
+use Rattle.sst_merge.specs.Movable.{IsFresh, is_sought, item_before}
 use Rattle.sst_merge.specs.MovableBlocks.{AreEntryBlocks, HoldsBack, HoldsFront, IsBackIn, IsFrontIn, TakesFirstOf, TakesLastOf, back_place, entries_before, entry_key, front_place, is_block_sought, is_last_sought, window_of}
-use Rattle.sst_merge.specs.MovableTables.{AnyStepFails, AreTableEnds, GoesBack, GoesForth, IsBackAt, IsFrontAt, IsWholeBlock, KeepsTable, OfBlocks, TableEnd, TableStops, block_reads, end_in, end_of, ends_with, errors_in, fit_blocks, have_ends, read_blocks, search_from, table_blocks, table_errors, table_moved, with_block}
-use Rattle.sst_merge.specs.Moved.{IsStep, MayStop, Moved, sought, step_back, step_front, unless_ended}
+use Rattle.sst_merge.specs.MovableTables.{AnyStepFails, AreTableEnds, GoesBack, GoesForth, IsBackAt, IsFrontAt, IsWholeBlock, KeepsTable, OfBlocks, TableEnd, block_reads, end_in, end_of, ends_with, errors_in, fit_blocks, have_ends, later_starts, read_blocks, search_from, table_blocks, table_errors, table_moved, with_block}
+use Rattle.sst_merge.specs.Moved.{Moved, unless_ended}
 use Rattle.sst_merge.specs.Sources.{IsAmong}
 use Rattle.sst_merge.specs.Stored.{MayFailAnyTime, reported}
 use Rattle.sst_merge.specs.TableReads.{passes_ordered}
 use Rattle.sst_merge.proofs.Moving.BlockEnds.{back_at, back_before, back_block, back_ends, back_held, back_item, back_more, back_none, drop_zero, front_at, front_ends, front_held, front_item, front_more, front_none, left_from, left_later, left_up_to, left_same, none_at_end, none_earlier, none_same, some_in}
 use Rattle.sst_merge.proofs.Moving.BlockCounts.{stops}
 use Rattle.sst_merge.proofs.Moving.BlockPlaces.{before_all, before_none}
-use Rattle.sst_merge.proofs.Moving.MovedLaws.{moved_by}
 
 -- what holds of a value that may be known
 pub for_known : {A : Type 0} (P : A → Type 0) (o : Option A) → ((a : A) → o ≡ Some a → P a) → IfSome o P
@@ -218,18 +217,8 @@ module _ {S : Type 0} (c : Hashes) (bytes : S → Option (List ℕ)) (t u : Tabl
   pub blocks_same : table_blocks c (bytes u.source) u.index ≡ table_blocks c (bytes t.source) t.index
   blocks_same = ap (λ b. table_blocks c b u.index) keeps.same ∙ ap (λ (k : TableParts S). table_blocks c (bytes t.source) k.index) keeps.kept
 
-  pub errors_same : table_errors c (bytes u.source) u.index ≡ table_errors c (bytes t.source) t.index
-  errors_same = ap (λ b. table_errors c b u.index) keeps.same ∙ ap (λ (k : TableParts S). table_errors c (bytes t.source) k.index) keeps.kept
-
-abbrev window_at : Option TableEnd → Option TableEnd → List (List Entry) → Window Entry
+abbrev pub window_at : Option TableEnd → Option TableEnd → List (List Entry) → Window Entry
 window_at front back blocks = window_of blocks (end_in front) (end_in back)
-
-back_by : (f b d : Option TableEnd) (r : Option Entry) (o : Option (List (List Entry))) → IfSome o (GoesBack b d r)
-    → (option_map (window_at f d) o ≡ option_map (λ w. (step_back w).0) (option_map (window_at f b) o)) × IfSome (option_map (window_at f b) o) (λ w. item r ≡ (step_back w).1)
-back_by f b d r None h = (refl, tt)
-back_by f b d r (Some blocks) h =
-    let to : ℕ → Option (Window Entry) = λ n. Some (record (window_at f b blocks) { hi = n }) in
-    (ap to (h.back.place_is ∙ ap (λ x. back_place blocks (end_in b) - found_item x) h.item_is), ap item h.item_is)
 
 -- what is known of both ends, of which one was moved
 ends_by_front : (f g b : Option TableEnd) (place : List (List Entry) → ℕ) (o : Option (List (List Entry))) → IfSome o (AreTableEnds f b) → IfSome o (λ blocks. IsFrontAt blocks (place blocks) g) → IfSome o (AreTableEnds g b)
@@ -244,27 +233,12 @@ module _ {S : Type 0} (c : Hashes) (bytes : S → Option (List ℕ)) (t u : Tabl
   abbrev known : Option (List (List Entry))
   known = table_blocks c (bytes t.source) t.index
 
-  abbrev old : Moved Entry
-  old = table_moved c bytes t f b None
-
-  pub steps_back : (d : Option TableEnd) (r : Option Entry) → IfSome known (GoesBack b d r) → IsStep step_back old r (table_moved c bytes u f d None)
-  steps_back d r h =
-      let k = back_by f b d r known h in
-      record {
-        moved = moved_by (table_moved c bytes u f d None) (record old { window = option_map (λ w. (step_back w).0) old.window }) (ap (option_map (window_at f d)) (blocks_same c bytes t u keeps) ∙ k.0) (errors_same c bytes t u keeps) refl;
-        item_is = k.1;
-      }
-
+  -- the ends stay ends
   pub kept_sought : (g : Option TableEnd) (place : List (List Entry) → ℕ) → IfSome known (AreTableEnds f b) → IfSome known (λ blocks. IsFrontAt blocks (place blocks) g) → IfSome (table_blocks c (bytes u.source) u.index) (AreTableEnds g b)
   kept_sought g place are h = subst (λ o. IfSome o (AreTableEnds g b)) (sym (blocks_same c bytes t u keeps)) (ends_by_front f g b place known are h)
 
   pub kept_sought_up : (d : Option TableEnd) (place : List (List Entry) → ℕ) → IfSome known (AreTableEnds f b) → IfSome known (λ blocks. IsBackAt blocks (place blocks) d) → IfSome (table_blocks c (bytes u.source) u.index) (AreTableEnds f d)
   kept_sought_up d place are h = subst (λ o. IfSome o (AreTableEnds f d)) (sym (blocks_same c bytes t u keeps)) (ends_by_back f b d place known are h)
-
--- why a step of a table fails
-pub stops_as : {S : Type 0} (c : Hashes) (bytes : S → Option (List ℕ)) (is_reliable : S → Type 0) (t : TableParts S) (f b : Option TableEnd) (e : Error) → TableStops c bytes is_reliable t e → MayStop (AnyStepFails is_reliable) (table_moved c bytes t f b None) e
-stops_as c bytes is_reliable t f b e (inl any) = inl any
-stops_as c bytes is_reliable t f b e (inr met) = inr (met_under None (table_errors c (bytes t.source) t.index) e met)
 
 -- What is shown of a table.
 shown_by : (f b : Option TableEnd) (P : Window Entry → Type 0) (ended : Option Error) (o : Option (List (List Entry))) → IfSome (unless_ended ended o) (AreTableEnds f b) → ((blocks : List (List Entry)) → AreTableEnds f b blocks → P (window_at f b blocks)) → IfSome (unless_ended ended (option_map (window_at f b) o)) P
@@ -272,9 +246,9 @@ shown_by f b P (Some e) o are h = tt
 shown_by f b P None None are h = tt
 shown_by f b P None (Some blocks) are h = h blocks are
 
-pub table_shown : {S : Type 0} (c : Hashes) (bytes : S → Option (List ℕ)) (t : TableParts S) (f b : Option TableEnd) (ended : Option Error) (all : Moved Entry) → table_moved c bytes t f b ended ≡ all
+pub table_shown : {S : Type 0} (c : Hashes) (bytes : S → Option (List ℕ)) (reads : S → ℕ) (t : TableParts S) (f b : Option TableEnd) (ended : Option Error) (all : Moved Entry) → table_moved c bytes reads t f b ended ≡ all
     → IfSome (unless_ended ended (table_blocks c (bytes t.source) t.index)) (AreTableEnds f b) → (P : Window Entry → Type 0) → ((blocks : List (List Entry)) → AreTableEnds f b blocks → P (window_at f b blocks)) → IfSome all.window P
-table_shown c bytes t f b ended all is are P h = subst (λ (m : Moved Entry). IfSome m.window P) is (shown_by f b P ended (table_blocks c (bytes t.source) t.index) are h)
+table_shown c bytes reads t f b ended all is are P h = subst (λ (m : Moved Entry). IfSome m.window P) is (shown_by f b P ended (table_blocks c (bytes t.source) t.index) are h)
 
 module _ (f b : Option TableEnd) (blocks : List (List Entry)) (are : AreTableEnds f b blocks) where
   pub front_shows : (x : TableEnd) → f ≡ Some x → Some x.held ≡ slice_get (joined blocks) (front_place blocks (end_in f))
@@ -371,7 +345,7 @@ no_back_behind c bytes t n behind =
     absurd (omega (arith, m, behind, inside)))
 
 -- Searches.
-abbrev sought_count : List ℕ → Bool → List (List Entry) → ℕ
+abbrev pub sought_count : List ℕ → Bool → List (List Entry) → ℕ
 sought_count key at_most blocks = count_by (is_sought entry_key key at_most) (joined blocks)
 
 pub sought_behind : {S : Type 0} (c : Hashes) (bytes : S → Option (List ℕ)) (t : TableParts S) (key : List ℕ) (i : ℕ) → OfBlocks c bytes t (λ blocks. i ≡ count_by (is_block_sought key false) blocks) → length t.index ≤ i
@@ -403,10 +377,10 @@ sought_front c bytes t key i w v a r found here is step took whole_list =
     took whole_list
 
 module _ {S : Type 0} (c : Hashes) (bytes : S → Option (List ℕ)) (t : TableParts S) (key : List ℕ) (i : ℕ) (found : OfBlocks c bytes t (λ blocks. i ≡ count_by (is_block_sought key true) blocks)) where
-  abbrev the_blocks : Option (List (List Entry))
+  abbrev pub the_blocks : Option (List (List Entry))
   the_blocks = table_blocks c (bytes t.source) t.index
 
-  stop_at : (blocks : List (List Entry)) → the_blocks ≡ Some blocks → (i ≡ count_by (is_block_sought key true) blocks) × AreEntryBlocks blocks × (length blocks ≡ length t.index)
+  pub stop_at : (blocks : List (List Entry)) → the_blocks ≡ Some blocks → (i ≡ count_by (is_block_sought key true) blocks) × AreEntryBlocks blocks × (length blocks ≡ length t.index)
   stop_at blocks known =
       let k = are_read c (bytes t.source) t.index blocks known in
       (of_known (λ bs. i ≡ count_by (is_block_sought key true) bs) the_blocks blocks known found, are_blocks t.index blocks k.in_order k.ends, as_many t.index blocks k.ends)
@@ -425,15 +399,15 @@ module _ {S : Type 0} (c : Hashes) (bytes : S → Option (List ℕ)) (t : TableP
       opened
 
   module _ (w v : Window Entry) (a : Answer Entry) (here : OfBlocks c bytes t (λ blocks. slice_get blocks i ≡ Some w.list)) (is : w ≡ whole w.list) (step : (v, a) ≡ seek_upper entries key w) where
-    abbrev passed_here : ℕ
+    abbrev pub passed_here : ℕ
     passed_here = count_by (is_sought entry_key key true) w.list
 
-    within_here : (blocks : List (List Entry)) → the_blocks ≡ Some blocks → (slice_get blocks i ≡ Some w.list) × (sought_count key true blocks ≡ entries_before blocks i + passed_here)
+    pub within_here : (blocks : List (List Entry)) → the_blocks ≡ Some blocks → (slice_get blocks i ≡ Some w.list) × (sought_count key true blocks ≡ entries_before blocks i + passed_here) × (passed_here < length w.list)
     within_here blocks known =
         let k = stop_at blocks known in
         let at = of_known (λ bs. slice_get bs i ≡ Some w.list) the_blocks blocks known here in
         let stop = (stops key true blocks k.1).within w.list (ap (slice_get blocks) (sym k.0) ∙ at) in
-        (at, stop.0 ∙ ap (λ m. entries_before blocks m + passed_here) (sym k.0))
+        (at, stop.0 ∙ ap (λ m. entries_before blocks m + passed_here) (sym k.0), stop.1)
 
     -- the block at which the search stops has such an entry
     pub sought_some : (o : Option TableEnd) (e : TableEnd) → o ≡ Some e → TakesLastOf i (items_left v) (end_in o) → OfBlocks c bytes t (λ blocks. IsBackAt blocks (sought_count key true blocks) (Some e))
@@ -442,16 +416,20 @@ module _ {S : Type 0} (c : Hashes) (bytes : S → Option (List ℕ)) (t : TableP
         subst (λ m. IsBackAt blocks m (Some e)) (sym k.1)
         (back_sought blocks i passed_here w.list (items_left v) e k.0 (left_up_to key w.list w v a passed_here is step refl) (count_by-le-length (is_sought entry_key key true) w.list) (subst (λ q. TakesLastOf i (items_left v) (end_in q)) o_is took)))
 
-    -- or it has none, and the block before it ends with one
+    -- or it has none
+    pub none_passed : (o : Option TableEnd) → o ≡ None → TakesLastOf i (items_left v) (end_in o) → (blocks : List (List Entry)) → the_blocks ≡ Some blocks → passed_here ≡ 0
+    none_passed o o_is took blocks known =
+        let k = within_here blocks known in
+        back_none blocks i w.list k.0 passed_here (items_left v) (left_up_to key w.list w v a passed_here is step refl) (subst (λ p. TakesLastOf i (items_left v) (end_in p)) o_is took) (some_in blocks i w.list (stop_at blocks known).1.some k.0) (count_by-le-length (is_sought entry_key key true) w.list)
+
+    -- and the block before it ends with one
     pub sought_none : (u : TableParts S) (keeps : KeepsTable bytes t u) (o : Option TableEnd) (r : Result (Option TableEnd) Error) → o ≡ None → TakesLastOf i (items_left v) (end_in o) → IfOk r (λ q. OfBlocks c bytes u (λ blocks. i ≤ length blocks → IsBackAt blocks (entries_before blocks i) q))
         → IfOk r (λ q. OfBlocks c bytes t (λ blocks. IsBackAt blocks (sought_count key true blocks) q))
     sought_none u keeps o r o_is took opened =
         if_ok (λ q. OfBlocks c bytes u (λ blocks. i ≤ length blocks → IsBackAt blocks (entries_before blocks i) q)) (λ q. OfBlocks c bytes t (λ blocks. IsBackAt blocks (sought_count key true blocks) q)) r
         (λ q h. for_known (λ blocks. IsBackAt blocks (sought_count key true blocks) q) the_blocks (λ blocks known.
         let k = within_here blocks known in
-        let m = stop_at blocks known in
-        let some = some_in blocks i w.list m.1.some k.0 in
-        let none = back_none blocks i w.list k.0 passed_here (items_left v) (left_up_to key w.list w v a passed_here is step refl) (subst (λ p. TakesLastOf i (items_left v) (end_in p)) o_is took) some (count_by-le-length (is_sought entry_key key true) w.list) in
+        let none = none_passed o o_is took blocks known in
         let inside = slice_get_within blocks i w.list k.0 in
         let place : entries_before blocks i ≡ sought_count key true blocks = (let e = k.1 in omega (arith, e, none)) in
         subst (λ n. IsBackAt blocks n q) place (of_known (λ bs. i ≤ length bs → IsBackAt bs (entries_before bs i) q) (table_blocks c (bytes u.source) u.index) blocks (blocks_same c bytes t u keeps ∙ known) h (omega (arith, inside)))))
@@ -554,14 +532,32 @@ pub gave_none_last : (xs ys : List Entry) (r : Option Entry) → YieldsLast (λ 
 gave_none_last xs ys None h is = h.0
 gave_none_last xs ys (Some y) h is = absurd (cc)
 
+-- The ends that are opened first.
+module _ {S : Type 0} (c : Hashes) (bytes : S → Option (List ℕ)) (t : TableParts S) where
+  pub opens_first : (f : Option TableEnd) → OfBlocks c bytes t (λ blocks. IsFrontAt blocks (entries_before blocks 0) f) → OfBlocks c bytes t (λ blocks. IsFrontAt blocks 0 f)
+  opens_first f h =
+      let o = table_blocks c (bytes t.source) t.index in
+      for_known (λ blocks. IsFrontAt blocks 0 f) o (λ blocks known. subst (λ n. IsFrontAt blocks n f) (before_none blocks) (of_known (λ bs. IsFrontAt bs (entries_before bs 0) f) o blocks known h))
+
+  pub opens_last : (u : TableParts S) (keeps : KeepsTable bytes t u) (n : ℕ) (d : Option TableEnd) → n ≡ length t.index → OfBlocks c bytes u (λ blocks. n ≤ length blocks → IsBackAt blocks (entries_before blocks n) d) → OfBlocks c bytes t (λ blocks. IsBackAt blocks (length (joined blocks)) d)
+  opens_last u keeps n d count h =
+      let o = table_blocks c (bytes t.source) t.index in
+      for_known (λ blocks. IsBackAt blocks (length (joined blocks)) d) o (λ blocks known.
+      let k = are_read c (bytes t.source) t.index blocks known in
+      let m = as_many t.index blocks k.ends in
+      let back = of_known (λ bs. n ≤ length bs → IsBackAt bs (entries_before bs n) d) (table_blocks c (bytes u.source) u.index) blocks (blocks_same c bytes t u keeps ∙ known) h (omega (arith, m, count)) in
+      subst (λ place. IsBackAt blocks place d) (before_all blocks n (omega (arith, m, count))) back)
+
 -- A table whose ends are opened.
-module _ {S : Type 0} (c : Hashes) (bytes : S → Option (List ℕ)) (t u v : TableParts S) (first : KeepsTable bytes t u) (second : KeepsTable bytes u v) (f b : Option TableEnd) (n : ℕ) (count : n ≡ length u.index)
-    (front : OfBlocks c bytes t (λ blocks. IsFrontAt blocks (entries_before blocks 0) f)) (back : OfBlocks c bytes u (λ blocks. n ≤ length blocks → IsBackAt blocks (entries_before blocks n) b)) where
+module _ {S : Type 0} (c : Hashes) (bytes : S → Option (List ℕ)) (t v : TableParts S) (keeps : KeepsTable bytes t v) (f b : Option TableEnd) (front : OfBlocks c bytes t (λ blocks. IsFrontAt blocks 0 f)) (back : OfBlocks c bytes t (λ blocks. IsBackAt blocks (length (joined blocks)) b)) where
   abbrev known_all : Option (List (List Entry))
   known_all = table_blocks c (bytes t.source) t.index
 
   last_same : table_blocks c (bytes v.source) v.index ≡ known_all
-  last_same = blocks_same c bytes u v second ∙ blocks_same c bytes t u first
+  last_same = blocks_same c bytes t v keeps
+
+  pub starts_later : later_starts (table_blocks c (bytes v.source) v.index) ≡ later_starts known_all
+  starts_later = ap (λ o. later_starts o) last_same
 
   pub record Starts (blocks : List (List Entry)) : Type 0 where
     pub are : AreTableEnds f b blocks
@@ -571,18 +567,13 @@ module _ {S : Type 0} (c : Hashes) (bytes : S → Option (List ℕ)) (t u v : Ta
   starts_by : (blocks : List (List Entry)) → known_all ≡ Some blocks → Starts blocks
   starts_by blocks known =
       let k = are_read c (bytes t.source) t.index blocks known in
-      let m = as_many t.index blocks k.ends in
-      let kept = ap (λ (p : TableParts S). length p.index) first.kept in
-      let size : n ≡ length blocks = omega (arith, m, kept, count) in
-      let h = of_known (λ bs. IsFrontAt bs (entries_before bs 0) f) known_all blocks known front in
-      let g = of_known (λ bs. n ≤ length bs → IsBackAt bs (entries_before bs n) b) (table_blocks c (bytes u.source) u.index) blocks (blocks_same c bytes t u first ∙ known) back (omega (arith, size)) in
-      let lo_is : front_place blocks (end_in f) ≡ 0 = h.place_is ∙ before_none blocks in
-      let hi_is : back_place blocks (end_in b) ≡ length (joined blocks) = g.place_is ∙ before_all blocks n (omega (arith, size)) in
+      let h = of_known (λ bs. IsFrontAt bs 0 f) known_all blocks known front in
+      let g = of_known (λ bs. IsBackAt bs (length (joined bs)) b) known_all blocks known back in
       let lo_to : ℕ → Window Entry = λ i. record { list = joined blocks; lo = i; hi = back_place blocks (end_in b) } in
       let hi_to : ℕ → Window Entry = λ i. record { list = joined blocks; lo = 0; hi = i } in
       record {
         are = record { front_holds = h.holds; front_whole = h.whole; back_holds = g.holds };
-        all = ap lo_to lo_is ∙ ap hi_to hi_is;
+        all = ap lo_to h.place_is ∙ ap hi_to g.place_is;
         ordered = (are_blocks t.index blocks k.in_order k.ends).ordered;
       }
 

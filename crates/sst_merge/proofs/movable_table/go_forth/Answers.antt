@@ -6,6 +6,7 @@ use Rattle.sstable_blocks.specs.RunReading.{hashes}
 use Rattle.sst_merge.specs.MovableTables.{IsFrontAt, OfBlocks, TableEnd}
 use Rattle.sst_merge.specs.MovableBlocks.{entries_before}
 use Rattle.sst_merge.proofs.Moving.TableEnds.{forth_more, forth_next, gave_first, gave_none_first}
+use Rattle.sst_merge.proofs.Moving.TableFrames.{forth_here, forth_none, forth_other}
 use Rattle.sst_merge.proofs.movable_table.go_forth.Goals as goal
 
 -- a step keeps the list of a window
@@ -33,3 +34,15 @@ returns-clause-step g c =
     forth_next (hashes g.H.BlockHash.hash64 g.H.BlockHash.hash128) g.S.FrameSource.bytes c.args.table.now c.args.front.now c.replace-2.new.dest x c.held_of.result c.in-Some.is c.requires.holds
     (gave_none_first (items_left x.left.window) (items_left c.next_entry.new.self.window) c.in_ok-next.field-0 c.in_ok-next.ensures.first c.in_default-2.is) opened
     (c.held_of.ensures ∙ ap (option_map (λ (e : TableEnd). e.held)) c.replace-2.ensures.value)
+
+pub returns-in_default-clause-asks : goal.returns-in_default-clause-asks
+returns-in_default-clause-asks g c = forth_none (hashes g.H.BlockHash.hash64 g.H.BlockHash.hash128) g.S.FrameSource.bytes g.S.FrameSource.reads c.args.table.now c.args.front.now c.in_default.is
+
+pub returns-in-Some-2-clause-asks : goal.returns-in-Some-2-clause-asks
+returns-in-Some-2-clause-asks g c = forth_here (hashes g.H.BlockHash.hash64 g.H.BlockHash.hash128) g.S.FrameSource.bytes g.S.FrameSource.reads c.args.table.now c.args.front.now c.in-Some.open _ c.replace.result c.in-Some.is refl (returns-in-Some-2-clause-step g c)
+
+pub returns-clause-asks : goal.returns-clause-asks
+returns-clause-asks g c =
+    let x = c.in-Some.open in
+    let opened = subst (λ o. OfBlocks (hashes g.H.BlockHash.hash64 g.H.BlockHash.hash128) g.S.FrameSource.bytes c.args.table.now (λ blocks. IsFrontAt blocks (entries_before blocks (x.block + 1)) o)) (sym c.replace-2.ensures.after) c.in_ok-next-2.ensures.front in
+    forth_other (hashes g.H.BlockHash.hash64 g.H.BlockHash.hash128) g.S.FrameSource.bytes g.S.FrameSource.reads c.args.table.now c.open_front.new.table (x.block + 1) c.replace-2.new.dest (omega arith) c.in_ok-next-2.ensures.asks opened

@@ -28,7 +28,8 @@ loop-alloc-preserved g c =
     let given = entries_in entry c.args.source.now.list in
     let taken = entries_taken entry c.loop-alloc.source.list c.add_block-in-loop-alloc.new.source.list c.add_block-in-loop-alloc.new.block.items added.taken.taken in
     let some : 1 ≤ length (map entry c.loop-alloc.block.items) = (let n = length-map c.loop-alloc.block.items entry in omega (arith, before.entries, n)) in
-    let more : 1 ≤ length block = (let n = length-map c.add_block-in-loop-alloc.new.block.items entry in let e = added.some in omega (arith, e, n)) in
+    let more : 1 ≤ length block = added.added.some in
+    let one : 1 ≤ length c.add_block-in-loop-alloc.new.block.items = (let n = length-map c.add_block-in-loop-alloc.new.block.items entry in omega (arith, more, n)) in
     let r = c.args.config.restart_interval in
     record {
       config = added.run.config ∙ before.config;
@@ -38,7 +39,7 @@ loop-alloc-preserved g c =
       reliable = λ n. added.reliable (before.reliable n);
       some = subst (λ (bs : List (List Entry)). 1 ≤ length bs) (sym added.added.blocks) (some_push c.loop-alloc.run.blocks block);
       last = (c.loop-alloc.run.blocks, added.added.blocks);
-      entries = added.some;
+      entries = one;
       len = subst (λ (bs : List (List Entry)). c.saturating_add-len.result ≡ capped (blocks_len r bs)) (sym added.added.blocks)
           (len_block r c.loop-alloc.run.blocks block c.loop-alloc.len c.in_ok-added.added c.saturating_add-len.result before.len added.len c.saturating_add-len.ensures);
       filled = subst (AllByRecursion (IsFilled r c.args.sizes.block left)) (sym added.added.blocks) (filled_more r c.args.sizes.block now left c.loop-alloc.run.blocks block before.filled taken added.taken.filled);
@@ -48,7 +49,7 @@ loop-alloc-preserved g c =
           (c.goes_on.ensures.goes_on (blocks_len r c.loop-alloc.run.blocks) before.len c.loop-alloc-test.true)));
       taken = subst (λ (bs : List (List Entry)). IsTaken given (joined bs) left) (sym added.added.blocks)
           (taken_block given now left c.loop-alloc.run.blocks block before.taken taken);
-      most = (let less = added.taken.most in let one = added.some in let e = before.most in omega (arith, less, one, e));
+      most = (let less = added.taken.most in let e = before.most in omega (arith, less, one, e));
       ended = added.taken.ended ∙ before.ended;
       no_more = λ e met. before.no_more e (added.taken.no_more e met);
     }
@@ -86,6 +87,7 @@ loop-alloc-init g c =
     let r = c.args.config.restart_interval in
     let blocks : c.add_block.new.run.blocks ≡ block ∷ [] = added.added.blocks ∙ ap (λ (w : Writing g.row.W.Denot). w.blocks ++ block ∷ []) c.new-run.ensures in
     let one : blocks_len r (block ∷ []) ≡ block_len r block = omega arith in
+    let some : 1 ≤ length c.add_block.new.block.items = (let n = length-map c.add_block.new.block.items entry in let e = added.added.some in omega (arith, e, n)) in
     record {
       config = added.run.config ∙ ap (λ (w : Writing g.row.W.Denot). w.config) c.new-run.ensures;
       interval = refl;
@@ -94,13 +96,13 @@ loop-alloc-init g c =
       reliable = λ n. added.reliable (subst g.W.Output.never_fails (sym (ap (λ (w : Writing g.row.W.Denot). w.writer) c.new-run.ensures)) n);
       some = subst (λ (bs : List (List Entry)). 1 ≤ length bs) (sym blocks) (omega arith);
       last = ([], blocks);
-      entries = added.some;
+      entries = some;
       len = subst (λ (bs : List (List Entry)). c.in_ok-len.len ≡ capped (blocks_len r bs)) (sym blocks) (added.len ∙ ap capped (sym one));
       filled = subst (AllByRecursion (IsFilled r c.args.sizes.block left)) (sym blocks) (added.taken.filled, tt);
       shortest = subst (λ (bs : List (List Entry)). IfSome given (λ _. IsShortest r c.args.sizes.table bs)) (sym blocks) (one_shortest r c.args.sizes.table given block);
       taken = subst (λ (bs : List (List Entry)). IsTaken given (joined bs) left) (sym blocks)
           (subst (λ xs. IsTaken given xs left) (sym (append-nil block)) (entries_taken entry c.args.source.now.list c.add_block.new.source.list c.add_block.new.block.items added.taken.taken));
-      most = (let less = added.taken.most in let one = added.some in omega (arith, less, one));
+      most = (let less = added.taken.most in omega (arith, less, some));
       ended = added.taken.ended;
       no_more = added.taken.no_more;
     }

@@ -4,7 +4,7 @@ use Rattle.sst_block_core.specs.Window.{some_left}
 use Rattle.sst_merge.specs.Movable.{IsBackPick}
 use Rattle.sst_merge.specs.Moved.{MayStop, are_known, windows}
 use Rattle.sst_merge.proofs.Moving.MovableLaws.{same_source}
-use Rattle.sst_merge.proofs.Moving.MovedLaws.{ends_last, keeps_last, keeps_lost, none_last, stops_by, takes_last}
+use Rattle.sst_merge.proofs.Moving.MovedLaws.{asks_one, ends_last, keeps_last, keeps_lost, none_last, stops_by, takes_last}
 use Rattle.sst_merge.proofs.movable.MovableMerge.next_back.Goals as goal
 
 pub returns-then-is_empty-clause-step : goal.returns-then-is_empty-clause-step
@@ -58,3 +58,17 @@ returns-in-Err-clause-cause g c =
     let inside : p < length ss = subst (λ xs. p < length xs) c.deref.ensures.value c.last_source-last.ensures.inside in
     subst (MayStop g.I.Movable.may_fail c.args.self.now) (sym c.note_error.ensures.same)
     (stops_by g.T.Ranked.cmp g.T.Ranked.ordered g.I.Movable.moved ss c.self.invariant c.self.inside.ended c.in_default.is c.args.self.now c.self.view_is p c.index_mut.result.now inside c.index_mut.ensures.value g.I.Movable.may_fail c.in-Err.error c.in-Err.ensures.cause)
+
+pub returns-in-Ok-clause-most : goal.returns-in-Ok-clause-most
+returns-in-Ok-clause-most g c =
+    let ss = c.self.inside.sources.items in
+    let p = c.last_source-last.result in
+    let inside : p < length ss = subst (λ xs. p < length xs) c.deref.ensures.value c.last_source-last.ensures.inside in
+    asks_one g.T.Ranked.cmp g.T.Ranked.ordered g.I.Movable.moved ss c.self.invariant c.self.inside.ended c.in_default.is c.args.self.now c.self.view_is p c.index_mut.result.now inside c.index_mut.ensures.value _ c.next_back.new.self c.in-Ok.ensures.most
+
+pub returns-in-Err-clause-most : goal.returns-in-Err-clause-most
+returns-in-Err-clause-most g c =
+    let ss = c.self.inside.sources.items in
+    let p = c.last_source-last.result in
+    let inside : p < length ss = subst (λ xs. p < length xs) c.deref.ensures.value c.last_source-last.ensures.inside in
+    asks_one g.T.Ranked.cmp g.T.Ranked.ordered g.I.Movable.moved ss c.self.invariant c.self.inside.ended c.in_default.is c.args.self.now c.self.view_is p c.index_mut.result.now inside c.index_mut.ensures.value _ c.next_back.new.self c.in-Err.ensures.most

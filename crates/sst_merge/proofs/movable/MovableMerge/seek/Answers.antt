@@ -11,8 +11,8 @@ invariant_of-self g c =
     let ss = c.self.inside.sources.items in
     let test = is_below g.T.Keyed.key c.args.key.now in
     let apart = below_apart cmp g.T.Keyed.key g.met.T.Keyed.by_key c.args.key.now in
-    seeks_kept cmp g.T.Ranked.ordered g.I.Movable.moved ss c.self.invariant c.self.inside.ended c.in_default.is c.args.self.now c.self.view_is (seek_to test) _ refl
-    (λ known. sought_front cmp g.T.Ranked.ordered test (windows (map g.I.Movable.moved ss)) apart (c.self.invariant known)) c.in-Ok.ensures.sought
+    seeks_kept cmp g.T.Ranked.ordered g.I.Movable.moved ss c.self.invariant c.self.inside.ended c.in_default.is c.args.self.now c.self.view_is (seek_to test) c.seek_all.new.sources.items refl c.in-Ok.ensures.sought
+    (λ known. sought_front cmp g.T.Ranked.ordered test (windows (map g.I.Movable.moved ss)) apart (c.self.invariant known))
 
 pub invariant_of-self-in-Err : goal.invariant_of-self-in-Err
 invariant_of-self-in-Err g c = lost_all g.T.Ranked.cmp _ c.in-Err.ensures.lost
@@ -23,8 +23,8 @@ returns-in-Ok-clause-sought g c =
     let ss = c.self.inside.sources.items in
     let test = is_below g.T.Keyed.key c.args.key.now in
     let apart = below_apart cmp g.T.Keyed.key g.met.T.Keyed.by_key c.args.key.now in
-    seeks_merge cmp g.T.Ranked.ordered g.I.Movable.moved ss c.self.invariant c.self.inside.ended c.in_default.is c.args.self.now c.self.view_is (seek_to test) _ refl
-    (λ known. seeks_front cmp g.T.Ranked.ordered test (windows (map g.I.Movable.moved ss)) apart (c.self.invariant known)) c.in-Ok.ensures.sought
+    seeks_merge cmp g.T.Ranked.ordered g.I.Movable.moved ss c.self.invariant c.self.inside.ended c.in_default.is c.args.self.now c.self.view_is (seek_to test) c.seek_all.new.sources.items refl c.in-Ok.ensures.sought
+    (λ known. seeks_front cmp g.T.Ranked.ordered test (windows (map g.I.Movable.moved ss)) apart (c.self.invariant known))
 
 pub returns-in-Err-clause-cause : goal.returns-in-Err-clause-cause
 returns-in-Err-clause-cause g c =
