@@ -282,7 +282,8 @@ fn seek_upper_all<T: Keyed, I: Movable<T>>(
     ensures cause { IfErr result
         (MayStop I.may_fail (merged_moved T.cmp None (map I.moved sources.old.items))) }
     ensures most { let before = merged_moved T.cmp None (map I.moved sources.old.items) in
-        AsksAtMost (2 * before.tables) before (merged_moved T.cmp None (map I.moved sources.new.items)) }
+        AsksAtMost (2 * before.tables) before
+        (merged_moved T.cmp None (map I.moved sources.new.items)) }
 {
     let mut i = 0;
     while i < sources.len() {

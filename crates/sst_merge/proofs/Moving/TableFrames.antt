@@ -22,7 +22,7 @@ use Rattle.sst_merge.proofs.Moving.BlockCounts.{stops}
 use Rattle.sst_merge.proofs.Moving.BlockEnds.{back_block, front_none}
 use Rattle.sst_merge.proofs.Moving.BlockPlaces.{before_all, before_none, inside_joined}
 use Rattle.sst_merge.proofs.Moving.BlockStarts.{none_at_first, none_behind, none_inside, one_at}
-use Rattle.sst_merge.proofs.Merging.CutSteps.{item_found}
+use Rattle.sstable_blocks.specs.BetweenLaws.{item_found}
 use Rattle.sst_merge.proofs.Moving.TableEnds.{are_blocks, are_read, as_many, blocks_same, for_known, if_ok, none_passed, of_known, sought_count, stop_at, window_at, within_here}
 
 -- the first entry of blocks
