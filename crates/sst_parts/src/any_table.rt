@@ -60,10 +60,7 @@ impl<H: BlockHash, S: SizedSource> AnyTable<H, S> {
     ///
     /// Those of [`Table::open_file`], and where that is `Error::InvalidTag`, those of
     /// [`PartedTable::open_file`] in its place. The source is returned with the error.
-    pub fn open_file(
-        alloc: Global,
-        source: S,
-    ) -> std::result::Result<AnyTable<H, S>, OpenError<S>>
+    pub fn open_file(alloc: Global, source: S) -> std::result::Result<AnyTable<H, S>, OpenError<S>>
         ensures source { UsesSource S.bytes S.failures S.reads S.is_reliable AsksAny
             source (any_source_after result) (any_error_after result) }
         ensures exact { IfSome (S.bytes source) (λ all. MatchResult result

@@ -125,7 +125,10 @@ fn wrong_reads(alloc: Global, bytes: Vec<u8>) -> sst_base::Result<u64> {
 // How many reads are wrong of a table of a row.
 fn wrong_in_row(alloc: Global, row: &(usize, u32, usize, u64)) -> sst_base::Result<u64> {
     let (len, bits, blocks, bytes) = *row;
-    wrong_reads(alloc, written(alloc, len, PartSizes { blocks, bytes }, bits)?)
+    wrong_reads(
+        alloc,
+        written(alloc, len, PartSizes { blocks, bytes }, bits)?,
+    )
 }
 
 // Lengths of blocks, bits of a filter for a key, blocks of a part, and bytes of a part.

@@ -14,9 +14,7 @@ use crate::show::{EntryForm, Formed, Style};
 use crate::words::{AT, FILE, KEY};
 use clap::ArgMatches;
 use sst_parts::AnyTable;
-use sstable_blocks::{
-    BlockHash, FileSource, FrameSource, InternalValue, SeekInput, SeqNo, Steps,
-};
+use sstable_blocks::{BlockHash, FileSource, FrameSource, InternalValue, SeekInput, SeqNo, Steps};
 use std::alloc::Global;
 use std::io;
 use std::io::Write;

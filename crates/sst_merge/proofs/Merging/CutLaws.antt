@@ -169,7 +169,6 @@ module _ {X : Type 0} (cmp : X → X → Ordering) where
   slice_get-middle (z ∷ xs) ys x zero e = absurd (omega arith)
   slice_get-middle (z ∷ xs) ys x (suc n) e = slice_get-middle xs ys x n (omega (arith, e))
 
-
   next_le : (p : ℕ) (f g : ℕ → ℕ) → IsNext p f g → (i : ℕ) → f i ≤ g i
   next_le p f g n i = elim (cases_eq i p) [
     | inl same ↦ (let e = n.here in let d = ap f same in let k = ap g same in omega (arith, e, d, k))

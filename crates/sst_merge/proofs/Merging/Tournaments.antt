@@ -15,7 +15,6 @@ use Rattle.sst_merge.specs.Tournament.{AreWinners, IsOnWay, IsFirstOf, IsTournam
 use Rattle.sst_base.specs.TestLaws.{not_true, not_false, not_lt, is_not_lt}
 use Rattle.sst_merge.specs.ListLaws.{lt_suc}
 
-
 module _ {X : Type 0} (cmp : X → X → Ordering) (order : IsTotalOrder cmp) where
   turned : (x y : X) (o : Ordering) → cmp x y ≡ o → is_lt o ≡ true → not (is_lt (cmp y x)) ≡ true
   turned x y Less e h = ap (λ p. not (is_lt p)) (order.antisymm y x ∙ ap ordering_reverse e)
