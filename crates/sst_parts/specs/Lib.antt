@@ -6,3 +6,5 @@ pub mod ManyReads
 pub mod Parts
 pub mod PartScans
 pub mod PartWriting
+pub mod PartChecks
+pub mod PartFinds

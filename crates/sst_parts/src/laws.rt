@@ -4,6 +4,7 @@ ghost use Rattle.std.specs.Prelude.{◌≡◌, ◌++◌, ◌<◌, ◌^◌, ℕ, 
 ghost use Rattle.std.specs.Prelude.{slice_get};
 ghost use Rattle.std.specs.List.{AllZip};
 ghost use Rattle.std.specs.Option.{option_map};
+ghost use Rattle.sst_base.specs.Bytes.{IsBytes};
 ghost use Rattle.sst_base.specs.BlockHandle.{HandleParts};
 ghost use Rattle.sst_base.specs.Entry.{Entry, plain};
 ghost use Rattle.sst_block_core.specs.Entries.{entries};
@@ -11,9 +12,12 @@ ghost use Rattle.sst_block_core.specs.Handles.{Handle, handles};
 ghost use Rattle.sst_block_core.specs.Kind.{IsOrdered};
 ghost use Rattle.sst_block_core.specs.Window.{first_match};
 ghost use Rattle.sst_parts.specs.ManyReads.{IsRising, different, indexes, many_frames};
+ghost use Rattle.sst_parts.specs.PartChecks.{check_parted, summary_of_parts};
+ghost use Rattle.sst_parts.specs.PartFinds.{FoundPart, IsReadIndex};
 ghost use Rattle.sst_parts.specs.PartScans.{parts_read};
 ghost use Rattle.sst_parts.specs.PartWriting.{IsPartedFile, IsPartedLayout};
 ghost use Rattle.sst_parts.specs.Parts.{IsParted, read_by_top, tops_at, tops_by_footer};
+ghost use Rattle.sst_parts.specs.declared.checking.PartedSummary.{PartedSummary};
 ghost use Rattle.sstable_blocks.specs.Blocks.{joined};
 ghost use Rattle.sstable_blocks.specs.Lookup.{IsEnd, first_in, handle_for, place_for};
 ghost use Rattle.sstable_blocks.specs.Run.{Form};
@@ -21,11 +25,13 @@ ghost use Rattle.sstable_blocks.specs.RunReading.{Hashes, hashes};
 ghost use Rattle.sstable_blocks.specs.Scans.{KeyRange, handles_within, within};
 
 use sst_base::InternalValue;
-use sst_block_core::laws::{index_block_is_read, index_check_is_by_stages};
+use sst_block_core::laws::{
+    index_block_is_read, index_check_accepts_encodings, index_check_is_by_stages,
+};
 use sst_block_core::{BlockItem, KeyedBlockHandle};
 use sstable_blocks::run::laws::{
-    first_match_is_in_one_block, layout_is_sound, sound_is_read, sound_is_scanned,
-    sound_run_is_read,
+    accepted_run_is_sound, first_match_is_in_one_block, layout_is_sound, sound_is_read,
+    sound_is_scanned, sound_run_is_accepted, sound_run_is_read,
 };
 
 /// The first match of an ordered list in parts of blocks is that of the one part at which a search
@@ -72,6 +78,55 @@ pub fn parted_is_scanned()
     index_block_is_read();
     sound_run_is_read();
     sound_is_scanned();
+}
+
+/// Bytes that the check of a parted table accepts are a parted table, of whose parts it returns the
+/// summary.
+pub fn accepted_parted_is_sound()
+    ensures { (c : Hashes) (bytes : List ℕ) (top : HandleParts) (s : PartedSummary)
+        → IsBytes bytes → top.size < 2 ^ 32 → check_parted c bytes top ≡ Ok s
+        → (parts : List (List (List Entry))) × IsParted c parts bytes top
+        × (s ≡ summary_of_parts parts) }
+{
+    index_check_accepts_encodings();
+    accepted_run_is_sound();
+}
+
+/// The check of a parted table accepts each parted table.
+pub fn parted_is_accepted()
+    ensures { (c : Hashes) (parts : List (List (List Entry))) (bytes : List ℕ) (top : HandleParts)
+        → ((xs : List ℕ) → c.hash128 xs < 2 ^ 128) → IsParted c parts bytes top
+        → check_parted c bytes top ≡ Ok (summary_of_parts parts) }
+{
+    index_check_is_by_stages();
+    index_block_is_read();
+    sound_run_is_accepted();
+}
+
+/// The index of the parts of a parted table lies where its handle says, and is read.
+pub fn parted_index_is_read()
+    ensures { (c : Hashes) (parts : List (List (List Entry))) (bytes : List ℕ) (top : HandleParts)
+        → ((xs : List ℕ) → c.hash128 xs < 2 ^ 128) → IsParted c parts bytes top
+        → IsReadIndex c bytes top }
+{
+    index_check_is_by_stages();
+    index_block_is_read();
+}
+
+/// The first match of a parted table is that of the one part at which a search by key and sequence
+/// number over the handles of the parts stops, and there is none where it passes over all.
+pub fn parted_is_found()
+    ensures { (c : Hashes) (parts : List (List (List Entry))) (bytes : List ℕ) (top : HandleParts)
+        (tops : List Handle) (needle : List ℕ) (seqno : ℕ)
+        → ((xs : List ℕ) → c.hash128 xs < 2 ^ 128) → IsParted c parts bytes top
+        → tops_at c bytes top ≡ Ok tops
+        → FoundPart c bytes needle seqno
+        (first_match entries needle seqno (joined (joined parts)))
+        (handle_for handles needle seqno tops) }
+{
+    index_check_is_by_stages();
+    index_block_is_read();
+    first_match_is_in_one_part::<InternalValue, KeyedBlockHandle>();
 }
 
 /// The layout of a parted table, as [`PartWriter`](crate::PartWriter) writes it, is the file of a parted

@@ -24,6 +24,7 @@ use sst_base::{
     Block, BlockHandle, BlockHash, BlockOffset, BlockType, Error, InternalValue, Result, SeqNo,
     Steps,
 };
+use sst_block_core::table::index_block::IndexBlockRef;
 use sst_block_core::{DataBlock, IndexBlock};
 use sstable_blocks::run::checked::block_from;
 use sstable_blocks::run::{FrameSource, RunHandles, decode_footer};
@@ -108,9 +109,24 @@ fn filter_allows<H: BlockHash, S: FrameSource>(
 }
 
 // The range of the first handle of an index that can lead to a key below a sequence number.
-#[tactic(auto, using(sstable_blocks::specs::IndexStepLaws::found_range, sstable_blocks::specs::IndexStepLaws::handles_by_scan))]
 pub(crate) fn find_range(
     index: &IndexBlock,
+    needle: &[u8],
+    seqno: SeqNo,
+    steps: &mut Steps,
+) -> Option<BlockHandle>
+    ensures found { result
+        ≡ option_map range_of (handle_for handles needle.now seqno index.now.items) }
+    ensures counts { CountsBetween steps.old steps.new (1, 0)
+        (find_cost index.now.interval (length index.now.items)) }
+{
+    find_in(&index.by_ref(), needle, seqno, steps)
+}
+
+// The same of an index over borrowed bytes.
+#[tactic(auto, using(sstable_blocks::specs::IndexStepLaws::found_range, sstable_blocks::specs::IndexStepLaws::handles_by_scan))]
+pub(crate) fn find_in(
+    index: &IndexBlockRef<'_>,
     needle: &[u8],
     seqno: SeqNo,
     steps: &mut Steps,

@@ -1,9 +1,12 @@
 //! Parted tables in a source, of which the index of the parts is kept.
 ghost use Rattle.std.specs.Prelude.{◌≡◌, ◌+◌, ◌<◌, ◌^◌, Ok, IfOk, IfSome, MatchResult, Option, true};
-ghost use Rattle.std.specs.Prelude.{length};
+ghost use Rattle.std.specs.Prelude.{OnOk, length};
 ghost use Rattle.std.specs.Option.{option_map};
+ghost use Rattle.sst_base.specs.Bytes.{IsBytes};
 ghost use Rattle.sst_base.specs.Counted.{CountsBetween};
 ghost use Rattle.sst_block_core.specs.Handles.{handles};
+ghost use Rattle.sst_parts.specs.PartChecks.{ForParted, IsPartedSummary, check_parted};
+ghost use Rattle.sst_parts.specs.PartChecks.{parts_frames, summary_of_parts};
 ghost use Rattle.sst_parts.specs.Parts.{FindsInParts, error_after, parted_frames, parted_most};
 ghost use Rattle.sst_parts.specs.Parts.{read_by_top, source_after, tops_at, tops_by_footer};
 ghost use Rattle.sstable_blocks.specs.Footer.{table_handles};
@@ -12,10 +15,11 @@ ghost use Rattle.sstable_blocks.specs.Opened.{range_of};
 ghost use Rattle.sstable_blocks.specs.ReadCosts.{find_cost};
 ghost use Rattle.sstable_blocks.specs.RunReading.{hashes, range_at};
 ghost use Rattle.sstable_blocks.specs.Scans.{AtHandle};
-ghost use Rattle.sstable_blocks.specs.Sources.{AsksExactly, AsksIfOk, AsksUpTo, FailsAs, GivesOr};
-ghost use Rattle.sstable_blocks.specs.Sources.{ReadsAs, UsesSource};
+ghost use Rattle.sstable_blocks.specs.Sources.{AsksAs, AsksExactly, AsksIfOk, AsksUpTo};
+ghost use Rattle.sstable_blocks.specs.Sources.{FailsAs, GivesOr, ReadsAs, UsesSource};
 
-use crate::laws::parted_is_read;
+use crate::checking::{PartedSummary, check_parts};
+use crate::laws::{accepted_parted_is_sound, parted_is_accepted, parted_is_read};
 use crate::part::{find_range, read_in_part};
 use sst_base::{
     BlockHandle, BlockHash, BlockType, Error, InternalValue, Result, SeqNo, Slice, Steps,
@@ -36,6 +40,7 @@ fn tops_from<H: BlockHash, S: FrameSource>(
 ) -> Result<IndexBlock>
     ensures source { UsesSource S.bytes S.failures S.reads S.is_reliable
         (AsksExactly 1) source.old source.new result }
+    ensures cells { OnOk result (IfSome (S.bytes source.old) IsBytes) }
     ensures exact { ReadsAs S.bytes S.failures S.is_reliable source.old source.new
         (λ b. b.items) result (λ all. tops_at (hashes H.hash64 H.hash128) all top.now) }
     ensures heads { IfOk result (λ b. b.heads ≡ true) }
@@ -46,7 +51,7 @@ fn tops_from<H: BlockHash, S: FrameSource>(
 }
 
 // The handles in the footer of a file.
-fn handles_from<S: SizedSource>(alloc: Global, source: &mut S) -> Result<RunHandles>
+pub(crate) fn handles_from<S: SizedSource>(alloc: Global, source: &mut S) -> Result<RunHandles>
     ensures source { UsesSource S.bytes S.failures S.reads S.is_reliable
         (AsksIfOk (λ _. 1)) source.old source.new result }
     ensures exact { ReadsAs S.bytes S.failures S.is_reliable source.old source.new (λ h. h) result
@@ -115,6 +120,7 @@ pub struct PartedTable<H: BlockHash, S: FrameSource> {
 
 impl<H: BlockHash, S: FrameSource> Model for PartedTable<H, S> {
     ghost use Rattle.std.specs.Prelude.{◌≡◌, IfSome, Ok, true};
+    ghost use Rattle.sst_base.specs.Bytes.{IsBytes};
     ghost use Rattle.sst_parts.specs.Parts.{PartedParts, tops_at};
     ghost use Rattle.sstable_blocks.specs.RunReading.{hashes};
 
@@ -129,7 +135,7 @@ impl<H: BlockHash, S: FrameSource> Model for PartedTable<H, S> {
 
     ghost invariant = { λ t. IfSome (S.bytes t.source)
         (λ all. tops_at (hashes H.hash64 H.hash128) all t.top ≡ Ok t.index.items)
-        × (t.index.heads ≡ true) };
+        × (t.index.heads ≡ true) × IfSome (S.bytes t.source) IsBytes };
 }
 
 impl<H: BlockHash, S: FrameSource> PartedTable<H, S> {
@@ -226,6 +232,43 @@ impl<H: BlockHash, S: FrameSource> PartedTable<H, S> {
             (λ all. tops_at (hashes H.hash64 H.hash128) all self.now.top ≡ Ok self.now.tops) }
     {
         let _top = &self.top;
+    }
+
+    /// Checks all parts of any bytes, with the index of the parts that was kept: accepts exactly a
+    /// parted table. Each part is read once, whole, and checked as [`sstable_blocks::run::check`]
+    /// checks a run. The parts follow each other from offset 0; no entry sorts before its
+    /// predecessor, within a part or across parts; and each handle of the index has the key and the
+    /// sequence number of its part's last entry.
+    ///
+    /// # Errors
+    ///
+    /// The first one met, part by part: `Error::BadHandle` if the part does not begin where the part
+    /// before ends, those of the source for its bytes, `Error::Truncated` if these are fewer than
+    /// 24, those of [`sstable_blocks::run::check`] for the run in them, `Error::OutOfOrder` if its
+    /// first entry sorts before the last one of the part before, and `Error::BadHandle` if its last
+    /// entry is not that of its handle. `Error::Io` only where the source failed. `Error::Memory` if
+    /// an allocation fails.
+    pub fn verify(&mut self, alloc: Global) -> Result<PartedSummary>
+        ensures kept { self.new ≡ record self.old { source = self.new.source } }
+        ensures source { UsesSource S.bytes S.failures S.reads S.is_reliable
+            (AsksIfOk (λ s. s.parts)) self.old.source self.new.source result }
+        ensures asked { AsksAs S.bytes S.failures S.reads self.old.source self.new.source result
+            (λ all. parts_frames (hashes H.hash64 H.hash128) all self.old.tops) }
+        ensures exact { ReadsAs S.bytes S.failures S.is_reliable self.old.source self.new.source
+            (λ s. s) result (λ all. check_parted (hashes H.hash64 H.hash128) all self.old.top) }
+        ensures sound { IfSome (S.bytes self.old.source)
+            (λ all. IfOk result
+            (IsPartedSummary (hashes H.hash64 H.hash128) all self.old.top)) }
+        ensures accepts { IfSome (S.bytes self.old.source)
+            (λ all. ForParted (hashes H.hash64 H.hash128) all self.old.top
+            (λ parts. GivesOr (S.failures self.old.source < S.failures self.new.source)
+            (S.is_reliable self.old.source) (λ s. s) result (Ok (summary_of_parts parts)))) }
+    {
+        accepted_parted_is_sound();
+        parted_is_accepted();
+        // The size of the index has 32 bits.
+        let _fits = self.top.size();
+        check_parts::<H, S>(alloc, &mut self.source, &self.index)
     }
 
     /// Returns where the index of the parts is.

@@ -1,7 +1,13 @@
 // Parted tables, written and read.
-use sst_base::{BlockHandle, ByteSum, Error, HashRatio, InternalValue, Slice, Steps, ValueType};
-use sst_parts::{PartSizes, PartWriter, PartedScan, PartedTable};
-use sstable_blocks::run::FrameSource;
+use crate::Tested;
+use crate::runs::written::write_in_blocks;
+use sst_base::{
+    Block, BlockHandle, BlockOffset, BlockType, ByteSum, Error, HashRatio, InternalValue, Slice,
+    Steps, ValueType,
+};
+use sst_block_core::{IndexBlock, KeyedBlockHandle};
+use sst_parts::{PartSizes, PartWriter, PartedScan, PartedSummary, PartedTable};
+use sstable_blocks::run::{FrameSource, RunHandles, encode_footer};
 use sstable_blocks::{MemorySource, RunConfig};
 use std::alloc::Global;
 use std::ops::Bound;
@@ -276,4 +282,126 @@ fn parts_are_scanned_from_both_ends(rt: HostRuntime) {
         assert!(rt; wrong_in_all(rt.alloc(), *len, *blocks, *pattern) == Ok(0));
         assert!(rt; wrong_in_range(rt.alloc(), *len, *blocks, *pattern) == Ok(0));
     }
+}
+
+// A part: the key of its nine versions; the key and the sequence number that the index says are its
+// last; and how many bytes are between it and the part before.
+type Part = (u8, u8, u64, usize);
+
+// The handle of the bytes of a file from an offset on.
+fn handle_from(file: &[u8], offset: usize) -> sst_base::Result<BlockHandle> {
+    match u32::try_from(file.len().saturating_sub(offset)) {
+        Ok(size) => Ok(BlockHandle::new(BlockOffset(offset as u64), size)),
+        Err(_) => Err(Error::TooLong),
+    }
+}
+
+// Adds a part to a file. Returns its handle in the index.
+fn add_part(file: &mut Vec<u8>, part: &Part) -> sst_base::Result<KeyedBlockHandle> {
+    let alloc = *file.allocator();
+    let (key, end, seqno, between) = *part;
+    let mut list = Vec::new(alloc);
+    versions(&mut list, key)?;
+    let config = RunConfig::new(2, HashRatio { num: 1, den: 1 }, 10);
+    let (places, run) = write_in_blocks(alloc, Vec::new(alloc), list.as_slice(), 4, config)?;
+    file.resize(file.len().saturating_add(between), 0)?;
+    let offset = file.len();
+    file.extend_from_slice(run.as_slice())?;
+    file.extend_from_slice(&encode_footer(&places))?;
+    let handle = handle_from(file.as_slice(), offset)?;
+    let end_key = Slice::new(alloc, &[b'k', end])?;
+    Ok(KeyedBlockHandle::new(end_key, seqno, handle))
+}
+
+// Ends a file with the index of its parts and a footer.
+fn end_file(file: &mut Vec<u8>, handles: &[KeyedBlockHandle]) -> sst_base::Result<()> {
+    let alloc = *file.allocator();
+    if handles.is_empty() || !IndexBlock::is_ordered(handles) || !IndexBlock::ends_fit(handles) {
+        return Err(Error::OutOfOrder);
+    }
+    let payload = IndexBlock::encode_into_vec(alloc, handles)?;
+    let offset = file.len();
+    Block::write_into::<ByteSum, Vec<u8>>(file, payload.as_slice(), BlockType::Meta)?;
+    let top = handle_from(file.as_slice(), offset)?;
+    file.extend_from_slice(&encode_footer(&RunHandles {
+        index: top,
+        filter: None,
+    }))?;
+    Ok(())
+}
+
+// A file of two parts.
+fn file_of(alloc: Global, first: &Part, second: &Part) -> sst_base::Result<Vec<u8>> {
+    let mut file = Vec::new(alloc);
+    let mut handles = Vec::new(alloc);
+    handles.push(add_part(&mut file, first)?)?;
+    handles.push(add_part(&mut file, second)?)?;
+    end_file(&mut file, handles.as_slice())?;
+    Ok(file)
+}
+
+// What a check of a file says.
+fn verified(alloc: Global, file: Vec<u8>) -> sst_base::Result<PartedSummary> {
+    let source = MemorySource::new(Slice::from_vec(file)?);
+    let mut table = PartedTable::<ByteSum, MemorySource>::open_file(alloc, source)?;
+    table.verify(alloc)
+}
+
+// How many entries a check counts in a file of two parts.
+fn entries_in(alloc: Global, first: &Part, second: &Part) -> sst_base::Result<u64> {
+    let file = file_of(alloc, first, second)?;
+    let summary = verified(alloc, file)?;
+    Ok(summary.whole.entries)
+}
+
+// Two parts, and what a check says of them.
+const CHECKS: [(Part, Part, sst_base::Result<u64>); 7] = [
+    ((1, 1, 1, 0), (3, 3, 1, 0), Ok(18)),
+    // A byte between the parts.
+    ((1, 1, 1, 0), (3, 3, 1, 1), Err(Error::BadHandle)),
+    // A byte before the first.
+    ((1, 1, 1, 1), (3, 3, 1, 0), Err(Error::BadHandle)),
+    // The parts changed places.
+    ((3, 1, 1, 0), (1, 3, 1, 0), Err(Error::BadHandle)),
+    // The index says another number, and another key.
+    ((1, 1, 2, 0), (3, 3, 1, 0), Err(Error::BadHandle)),
+    ((1, 1, 1, 0), (3, 4, 1, 0), Err(Error::BadHandle)),
+    // The newest version of a key is behind its oldest one.
+    ((1, 1, 1, 0), (1, 1, 1, 0), Err(Error::OutOfOrder)),
+];
+
+#[test]
+fn parted_tables_alone_are_accepted(rt: HostRuntime) {
+    for (first, second, wanted) in &CHECKS {
+        assert!(rt; entries_in(rt.alloc(), first, second) == *wanted);
+    }
+}
+
+#[test]
+fn summary_is_that_of_all_parts(rt: HostRuntime) -> Tested {
+    let file = file_of(rt.alloc(), &(1, 1, 1, 0), &(3, 3, 1, 0))?;
+    let summary = verified(rt.alloc(), file)?;
+    let whole = &summary.whole;
+    assert_eq!(rt; (summary.parts, whole.blocks, whole.entries), (2, 6, 18));
+    assert_eq!(rt;
+        (whole.first_key.as_slice(), whole.first_seqno),
+        (b"k\x01".as_slice(), 9)
+    );
+    assert_eq!(rt;
+        (whole.last_key.as_slice(), whole.last_seqno),
+        (b"k\x03".as_slice(), 1)
+    );
+    assert_eq!(rt; (whole.least_seqno, whole.greatest_seqno), (1, 9));
+    Ok(())
+}
+
+#[test]
+fn damaged_byte_is_refused(rt: HostRuntime) -> Tested {
+    let mut file = file_of(rt.alloc(), &(1, 1, 1, 0), &(3, 3, 1, 0))?;
+    if let Some(cell) = file.get_mut(40) {
+        *cell ^= 1;
+    }
+    let checked = verified(rt.alloc(), file);
+    assert!(rt; matches!(checked, Err(Error::ChecksumMismatch { .. })));
+    Ok(())
 }

@@ -38,7 +38,7 @@ last_of_part bytes o n long =
     let whole : n ≡ n - 24 + 24 = omega arith in
     ap (λ k. drop (n - 24) (take k (drop o bytes))) whole ∙ drop-take (n - 24) 24 (drop o bytes) ∙ ap (take 24) (drop-drop (n - 24) o bytes)
 
-places_of_table : (bytes : List ℕ) (g : HandleParts) (x : RunHandles) → g.offset + g.size ≤ length bytes → table_handles (part_in bytes g) ≡ Ok x → places_in bytes g ≡ Ok x
+pub places_of_table : (bytes : List ℕ) (g : HandleParts) (x : RunHandles) → g.offset + g.size ≤ length bytes → table_handles (part_in bytes g) ≡ Ok x → places_in bytes g ≡ Ok x
 unfolding table_handles range_at
 places_of_table bytes g x inside e =
     let part = part_in bytes g in
@@ -55,7 +55,7 @@ places_of_table bytes g x inside e =
     places_by bytes g p long refl refl ∙ ap (λ r. r >>= footer_handles) found ∙ ap footer_handles (sym last)
     ∙ ap (λ n. footer_handles (drop (n - 24) part)) (sym size) ∙ e
 
-same_ok : {X : Type 0} (r : Result X Error) (x y : X) → r ≡ Ok x → r ≡ Ok y → x ≡ y
+pub same_ok : {X : Type 0} (r : Result X Error) (x y : X) → r ≡ Ok x → r ≡ Ok y → x ≡ y
 same_ok {X} r x y e f = let k : ◌≡◌ {A = Result X Error} (Ok x) (Ok y) = sym e ∙ f in cc
 
 module _ (c : Hashes) (sums : (xs : List ℕ) → c.hash128 xs < 2 ^ 128)

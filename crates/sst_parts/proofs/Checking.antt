@@ -1,0 +1,5 @@
+-- Checks of parted tables.
+pub mod PartCheckLaws
+pub mod PartCheckSteps
+pub mod PartFinds
+pub mod PartSummaries
