@@ -3,4 +3,4 @@ mod Reading
 mod Scanning
 mod Cached
 mod ManyReads
-mod Checking
+mod Checks

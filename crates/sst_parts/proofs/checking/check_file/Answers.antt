@@ -2,7 +2,7 @@ use Rattle.std.proofs.Common.{List, ℕ, ap, arith}
 use Rattle.std.proofs.lemmas.Result.{err_from_is_err_and}
 use Rattle.sstable_blocks.specs.RunReading.{hashes}
 use Rattle.sstable_blocks.specs.Sources.{SourceParts}
-use Rattle.sst_parts.proofs.Checking.PartCheckSteps.{file_passes, file_refused}
+use Rattle.sst_parts.proofs.Checks.PartCheckSteps.{file_passes, file_refused}
 use Rattle.sst_parts.proofs.checking.check_file.Goals as goal
 
 pub returns-in_err-handles-clause-exact : goal.returns-in_err-handles-clause-exact

@@ -1,7 +1,7 @@
 use Rattle.std.proofs.Common.{◌≡◌, List, ℕ, arith}
 use Rattle.std.proofs.lemmas.Result.{err_from_is_err_and}
 use Rattle.sst_parts.specs.PartChecks.{check_bytes, check_part}
-use Rattle.sst_parts.proofs.Checking.PartCheckSteps.{part_by}
+use Rattle.sst_parts.proofs.Checks.PartCheckSteps.{part_by}
 use Rattle.sstable_blocks.specs.RunReading.{hashes, range_at}
 use Rattle.sstable_blocks.specs.WalkLaws.{reads_fail, reads_on}
 use Rattle.sst_parts.proofs.checking.check_part.Goals as goal

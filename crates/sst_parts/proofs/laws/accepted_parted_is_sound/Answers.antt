@@ -1,4 +1,4 @@
-use Rattle.sst_parts.proofs.Checking.PartCheckLaws.{accepted_is_parted}
+use Rattle.sst_parts.proofs.Checks.PartCheckLaws.{accepted_is_parted}
 use Rattle.sst_parts.proofs.laws.accepted_parted_is_sound.Goals as goal
 
 pub returns : goal.returns

@@ -1,4 +1,4 @@
-use Rattle.sst_parts.proofs.Checking.PartFinds.{index_is_read}
+use Rattle.sst_parts.proofs.Checks.PartFinds.{index_is_read}
 use Rattle.sst_parts.proofs.laws.parted_index_is_read.Goals as goal
 
 pub returns : goal.returns

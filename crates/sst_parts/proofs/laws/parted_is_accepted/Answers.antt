@@ -1,4 +1,4 @@
-use Rattle.sst_parts.proofs.Checking.PartCheckLaws.{parted_is_accepted}
+use Rattle.sst_parts.proofs.Checks.PartCheckLaws.{parted_is_accepted}
 use Rattle.sst_parts.proofs.laws.parted_is_accepted.Goals as goal
 
 pub returns : goal.returns

@@ -1,4 +1,4 @@
-use Rattle.sst_parts.proofs.Checking.PartFinds.{found_part}
+use Rattle.sst_parts.proofs.Checks.PartFinds.{found_part}
 use Rattle.sst_parts.proofs.laws.parted_is_found.Goals as goal
 
 pub returns : goal.returns

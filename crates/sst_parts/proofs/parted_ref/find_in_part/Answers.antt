@@ -4,7 +4,7 @@ use Rattle.sstable_blocks.specs.ReadCosts.{CountsRead}
 use Rattle.sstable_blocks.specs.RunReading.{hashes}
 use Rattle.sstable_blocks.specs.Sound.{IsSoundRun, RunParts}
 use Rattle.sstable_blocks.specs.declared.run.RunHandles.{RunHandles}
-use Rattle.sst_parts.proofs.Checking.PartFinds.{counted, has_places, inside, sound_run}
+use Rattle.sst_parts.proofs.Checks.PartFinds.{counted, has_places, inside, sound_run}
 use Rattle.sst_parts.proofs.parted_ref.find_in_part.Goals as goal
 
 pub part_of-file-requires : goal.part_of-file-requires

@@ -1,6 +1,6 @@
 use Rattle.std.proofs.Common.{◌≡◌, List, ℕ, ap, arith, ◌∙◌}
 use Rattle.std.proofs.lemmas.Result.{err_from_is_err_and}
-use Rattle.sst_parts.proofs.Checking.PartCheckSteps.{lent_refused}
+use Rattle.sst_parts.proofs.Checks.PartCheckSteps.{lent_refused}
 use Rattle.sstable_blocks.specs.RunReading.{hashes}
 use Rattle.sstable_blocks.specs.Sources.{SourceParts}
 use Rattle.sst_parts.proofs.parted_ref.summary_in.Goals as goal

@@ -4,7 +4,7 @@ use Rattle.sst_block_core.specs.Entries.{entries}
 use Rattle.sst_block_core.specs.Window.{first_match}
 use Rattle.sst_parts.specs.PartChecks.{ForParted}
 use Rattle.sst_parts.specs.Parts.{parted_most}
-use Rattle.sst_parts.proofs.Checking.PartFinds.{find_none, find_some}
+use Rattle.sst_parts.proofs.Checks.PartFinds.{find_none, find_some}
 use Rattle.sst_parts.proofs.Scanning.PartSteps.{top_counted, top_uncounted}
 use Rattle.sstable_blocks.specs.Blocks.{joined}
 use Rattle.sstable_blocks.specs.RunReading.{hashes}

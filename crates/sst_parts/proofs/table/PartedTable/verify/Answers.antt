@@ -1,7 +1,7 @@
 use Rattle.std.proofs.Common.{◌<◌, ◌^◌, arith, subst, IfSome}
 use Rattle.sst_base.specs.Bytes.{IsBytes}
 use Rattle.sst_parts.specs.PartChecks.{check_parted}
-use Rattle.sst_parts.proofs.Checking.PartCheckSteps.{accepts_by, by_kept, sound_by}
+use Rattle.sst_parts.proofs.Checks.PartCheckSteps.{accepts_by, by_kept, sound_by}
 use Rattle.sstable_blocks.specs.RunReading.{hashes}
 use Rattle.sstable_blocks.specs.Sources.{GivesOr}
 use Rattle.sst_parts.proofs.table.PartedTable.verify.Goals as goal

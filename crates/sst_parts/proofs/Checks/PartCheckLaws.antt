@@ -23,7 +23,7 @@ use Rattle.sst_parts.specs.declared.checking.PartedSummary.{PartedSummary}
 use Rattle.sst_parts.specs.declared.checking.Passed.{Passed}
 use Rattle.sst_parts.proofs.Writing.Joins.{joined-map}
 use Rattle.sst_parts.proofs.Reading.PartReads.{tops_read}
-use Rattle.sst_parts.proofs.Checking.PartSummaries.{parts_count, passed_parts, whole_all}
+use Rattle.sst_parts.proofs.Checks.PartSummaries.{parts_count, passed_parts, whole_all}
 use Rattle.sstable_blocks.specs.Blocks.{joined}
 use Rattle.sstable_blocks.specs.FollowLaws.{FollowsEnd, demand_ok, demand_to, end_same, follows_none, lt_not, not_lt, ordered_cut, ordered_join, same_end}
 use Rattle.sstable_blocks.specs.Footer.{filter_of, footer_handles, parts_at, table_handles}

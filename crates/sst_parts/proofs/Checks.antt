@@ -1,4 +1,4 @@
--- Checks of parted tables.
+-- Checks of parted tables, and reads of those that are known.
 pub mod PartCheckLaws
 pub mod PartCheckSteps
 pub mod PartFinds
