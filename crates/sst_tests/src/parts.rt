@@ -82,7 +82,6 @@ fn written(alloc: Global, len: usize, sizes: PartSizes, bits: u32) -> sst_base::
     Ok(bytes)
 }
 
-<<<<<<< ours
 // The sequence number of what a read of a key gives, 0 where it gives nothing.
 fn got(
     alloc: Global,
@@ -96,10 +95,6 @@ fn got(
 
 // The sequence number of the newest version of a key below a number, 0 where there is none.
 fn newest(key: u8, seqno: u64) -> u64 {
-=======
-// The version of a key that a read below a sequence number gives; 0 for none.
-fn wanted_version(key: u8, seqno: u64) -> u64 {
->>>>>>> theirs
     if key % 2 == 1 && key < 12 {
         seqno.min(10).saturating_sub(1)
     } else {
@@ -107,7 +102,6 @@ fn wanted_version(key: u8, seqno: u64) -> u64 {
     }
 }
 
-<<<<<<< ours
 // How many reads of a key give the wrong version.
 fn wrong_of_key(
     alloc: Global,
@@ -123,61 +117,48 @@ fn wrong_of_key(
     Ok(wrong)
 }
 
-// How many reads of a parted table of six keys give the wrong version.
-=======
-// The number of finds in such a table over borrowed bytes that give the wrong version.
-fn wrong_finds(table: &PartedRef<'_, ByteSum>) -> u64 {
+// How many finds of a key over borrowed bytes give the wrong version.
+fn wrong_finds_of_key(table: &PartedRef<'_, ByteSum>, key: u8) -> u64 {
     let mut wrong = 0u64;
-    for key in 0u8..14 {
-        for seqno in 0u64..12 {
-            let needle = [b'k', key];
-            let got = match table.find(&needle, seqno, &mut Steps::new()) {
-                None => 0,
-                Some(view) => view.seqno(),
-            };
-            if got != wanted_version(key, seqno) {
-                wrong = wrong.saturating_add(1);
-            }
+    for seqno in 0u64..12 {
+        let found = table.find(&[b'k', key], seqno, &mut Steps::new());
+        if found.map_or(0, |view| view.seqno()) != newest(key, seqno) {
+            wrong = wrong.saturating_add(1);
         }
     }
     wrong
 }
 
-#[test]
-fn versions_are_found_in_borrowed_bytes(rt: HostRuntime) -> Tested {
-    for blocks in [0usize, 1, 2] {
-        let sizes = PartSizes { blocks, bytes: 0 };
-        let (top, bytes) = written_with_top(rt.alloc(), 4, sizes, 10)?;
-        let bytes = Slice::from_vec(bytes)?;
-        let (table, summary) = PartedRef::<ByteSum>::check(rt.alloc(), &bytes, &top)?;
-        assert_eq!(rt; summary.whole.entries, 54);
-        assert_eq!(rt; wrong_finds(&table), 0);
+// How many finds in a parted table of six keys over borrowed bytes give the wrong version, in parts
+// of so many blocks; an error where it has not so many entries.
+fn wrong_finds(alloc: Global, blocks: usize) -> sst_base::Result<u64> {
+    let (top, bytes) = written_with_top(alloc, 4, PartSizes { blocks, bytes: 0 }, 10)?;
+    let bytes = Slice::from_vec(bytes)?;
+    let (table, summary) = PartedRef::<ByteSum>::check(alloc, &bytes, &top)?;
+    if summary.whole.entries != 54 {
+        return Err(Error::BadEntry);
     }
-    Ok(())
+    let mut wrong = 0u64;
+    for key in 0u8..14 {
+        wrong = wrong.saturating_add(wrong_finds_of_key(&table, key));
+    }
+    Ok(wrong)
 }
 
-// The number of reads of a parted table of six keys that give the wrong version.
->>>>>>> theirs
+#[test]
+fn versions_are_found_in_borrowed_bytes(rt: HostRuntime) {
+    for blocks in &[0usize, 1, 2] {
+        assert!(rt; wrong_finds(rt.alloc(), *blocks) == Ok(0));
+    }
+}
+
+// How many reads of a parted table of six keys give the wrong version.
 fn wrong_reads(alloc: Global, bytes: Vec<u8>) -> sst_base::Result<u64> {
     let source = MemorySource::new(Slice::from_vec(bytes)?);
     let mut table = PartedTable::<ByteSum, MemorySource>::open_file(alloc, source)?;
     let mut wrong = 0u64;
     for key in 0u8..14 {
-<<<<<<< ours
         wrong = wrong.saturating_add(wrong_of_key(alloc, &mut table, key)?);
-=======
-        for seqno in 0u64..12 {
-            let needle = [b'k', key];
-            let found = table.get(alloc, &needle, seqno, &mut Steps::new())?;
-            let got = match found {
-                None => 0,
-                Some(entry) => InternalValue::key(&entry).seqno(),
-            };
-            if got != wanted_version(key, seqno) {
-                wrong = wrong.saturating_add(1);
-            }
-        }
->>>>>>> theirs
     }
     Ok(wrong)
 }
