@@ -19,3 +19,8 @@ footer_some p x e =
           cc)
       | inr long ↦ (let n : 24 ≤ length rest = ltb-false (length rest) 24 long in omega arith)
     ]
+
+-- it is read in its last 24 bytes
+pub footer_at : (p : List ℕ) → table_handles p ≡ footer_handles (drop (length p - 24) p)
+unfolding table_handles
+footer_at p = refl
