@@ -34,13 +34,17 @@ def snapshot(items, seqno):
 def compacted(items, snapshots, is_bottom):
     """Returns the entries that a compaction for snapshots leaves, each of which sees what is strictly
     below it: those that no snapshot sees, and those that one sees which sees no newer one of the key;
-    without the tombstones that every snapshot sees, of keys at the bottom."""
+    without the tombstones of keys at the bottom under which no snapshot that does not see them sees an
+    older one of the key."""
     kept = []
     for at, item in enumerate(items):
         newer = [other for other in items[:at] if other.key == item.key]
+        older = [other for other in items[at + 1 :] if other.key == item.key]
         seeing = [seqno for seqno in snapshots if item.seqno < seqno]
         alone = [seqno for seqno in seeing if all(other.seqno >= seqno for other in newer)]
-        goes = item.is_tombstone() and seeing == snapshots and is_bottom(item.key)
+        blind = [seqno for seqno in snapshots if item.seqno >= seqno]
+        under = [seqno for seqno in blind if any(other.seqno < seqno for other in older)]
+        goes = item.is_tombstone() and not under and is_bottom(item.key)
         if not seeing or alone and not goes:
             kept.append(item)
     return kept

@@ -1,6 +1,6 @@
 -- The hash function of all that is measured.
 use Rattle.std.specs.Prelude.{ℕ, List}
-use Rattle.sst_base.specs.Hashes.{poly31}
+use Rattle.sstable_blocks.specs.Prelude.{poly31}
 
 abbrev pub hash64 : List ℕ → ℕ
 hash64 = poly31 64

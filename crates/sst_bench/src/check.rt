@@ -2,8 +2,7 @@
 
 use crate::REFUSED;
 use crate::hash::Hash;
-use sst_base::{Block, BlockType, Slice};
-use sst_block_core::{DataBlock, IndexBlock};
+use sstable_blocks::{Block, BlockType, DataBlock, IndexBlock, Slice};
 use std::alloc::Global;
 
 // The block of a payload, which is copied.

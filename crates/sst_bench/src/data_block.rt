@@ -3,16 +3,15 @@
 //! Each call takes entries as bytes (see `entries`), a restart interval and a hash ratio `num /
 //! den`. It refuses an empty list, entries out of order, an interval of 0, and a denominator of 0.
 ghost use Rattle.std.specs.Prelude.{◌≤◌, length, IfSome, OnSome};
-ghost use Rattle.sst_block_core.specs.Kind.{IsOrdered};
-ghost use Rattle.sst_block_core.specs.Entries.{entries};
+ghost use Rattle.sstable_blocks.specs.Prelude.{IsOrdered, entries};
 
 use crate::REFUSED;
 use crate::entries::entries_in;
 use crate::hash::Hash;
 use crate::keys::keys_in;
 use crate::sums::{item_sum, made_sum, next_sum, search_sum};
-use sst_base::{Block, BlockType, HashRatio, InternalValue, SeqNo, Slice, Steps};
-use sst_block_core::{DataBlock, ParsedItem};
+use sstable_blocks::table::block::ParsedItem;
+use sstable_blocks::{Block, BlockType, DataBlock, HashRatio, InternalValue, SeqNo, Slice, Steps};
 use std::alloc::Global;
 
 // Above the sequence number of each entry that is read here, so that every version is visible.

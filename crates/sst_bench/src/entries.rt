@@ -13,7 +13,7 @@
 ghost use Rattle.std.specs.Prelude.{◌≡◌, ◌^◌, ◌<◌, ◌≤◌, length, IfSome};
 
 use byteorder::{ByteOrder, LittleEndian};
-use sst_base::{InternalValue, SeqNo, Slice, ValueType};
+use sstable_blocks::{InternalValue, SeqNo, Slice, ValueType};
 use std::alloc::Global;
 
 // The length of what is before the key.

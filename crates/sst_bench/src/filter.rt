@@ -5,7 +5,7 @@ use crate::REFUSED;
 use crate::data_block::copy_front;
 use crate::hash::Hash;
 use crate::keys::keys_in;
-use sst_base::Result;
+use sstable_blocks::Result;
 use sstable_blocks::filter::BloomConstructionPolicy;
 use sstable_blocks::filter::policy::MAX_BITS;
 use sstable_blocks::filter::standard_bloom::{Builder, StandardBloomFilterReader};

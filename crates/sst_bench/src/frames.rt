@@ -4,7 +4,7 @@ use crate::REFUSED;
 use crate::data_block::copy_front;
 use crate::hash::Hash;
 use crate::sums::last_byte;
-use sst_base::{Block, BlockType};
+use sstable_blocks::{Block, BlockType};
 use std::alloc::Global;
 
 // Writes the frame `times` times, each time into the same vector, emptied first.

@@ -13,8 +13,7 @@ ghost use Rattle.std.specs.Prelude.{◌≡◌, ◌^◌, ◌<◌, length};
 
 use crate::entries::bytes_in;
 use byteorder::{ByteOrder, LittleEndian};
-use sst_base::{BlockHandle, BlockOffset, SeqNo, Slice};
-use sst_block_core::KeyedBlockHandle;
+use sstable_blocks::{BlockHandle, BlockOffset, KeyedBlockHandle, SeqNo, Slice};
 use std::alloc::Global;
 
 // The length of what is before the end key.

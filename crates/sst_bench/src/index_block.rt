@@ -4,16 +4,14 @@
 //! list, handles out of order, a frame that ends past 2^64, and an interval of 0.
 ghost use Rattle.std.specs.Prelude.{◌≤◌, length, OnSome, IfSome};
 ghost use Rattle.std.specs.List.{AllByRecursion};
-ghost use Rattle.sst_block_core.specs.Kind.{IsOrdered};
-ghost use Rattle.sst_block_core.specs.Handles.{EndFits, handles};
+ghost use Rattle.sstable_blocks.specs.Prelude.{IsOrdered, EndFits, handles};
 
 use crate::REFUSED;
 use crate::data_block::copy_front;
 use crate::handles::handles_in;
 use crate::keys::keys_in;
 use crate::sums::{handle_sum, next_handle_sum};
-use sst_base::{Block, BlockType, SeqNo, Slice};
-use sst_block_core::{IndexBlock, KeyedBlockHandle};
+use sstable_blocks::{Block, BlockType, IndexBlock, KeyedBlockHandle, SeqNo, Slice};
 use std::alloc::Global;
 
 // The handles, if a block can be encoded from them.

@@ -2,7 +2,9 @@
 
 use crate::REFUSED;
 use crate::hash::Hash;
-use sst_base::{BlockHash, compare_bytes, decode_varint, longest_shared_prefix_length};
+use sstable_blocks::BlockHash;
+use sstable_blocks::coding::decode_varint;
+use sstable_blocks::table::util::{compare_bytes, longest_shared_prefix_length};
 use std::alloc::Global;
 
 /// Splits concatenated keys of one length. `None` if there is no key, the length is 0, the bytes

@@ -13,11 +13,11 @@ use crate::run::run_of;
 use crate::sums::Summed;
 use crate::tables::table_over;
 use crate::views::view_scans_of;
-use sst_base::{HashRatio, InternalValue, Slice};
-use sst_block_core::AsEntry;
 use sst_merge::{Compact, Head, Merge, Ranked, Sizes, Source, write_table};
 use sstable_blocks::run::{RunRef, Scan};
-use sstable_blocks::{MemorySource, RunConfig, RunHandles};
+use sstable_blocks::{
+    AsEntry, HashRatio, InternalValue, MemorySource, RunConfig, RunHandles, Slice,
+};
 use std::alloc::Global;
 
 // A scan whose first entry is held.

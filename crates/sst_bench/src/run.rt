@@ -4,11 +4,9 @@
 //! interval, a hash ratio `num / den`, and the bits of the filter for each key. Each handle of the
 //! index is a head. It refuses what data blocks refuse, and blocks of no entries.
 ghost use Rattle.std.specs.Prelude.{◌≤◌, List, length, IfSome};
-ghost use Rattle.sst_base.specs.Entry.{Entry};
 ghost use Rattle.sst_bench.specs.Hash.{hash64, hash128};
-ghost use Rattle.sst_block_core.specs.Entries.{entries};
-ghost use Rattle.sst_block_core.specs.Kind.{IsOrdered};
 ghost use Rattle.sstable_blocks.specs.Blocks.{CutsFit, blocks_of};
+ghost use Rattle.sstable_blocks.specs.Prelude.{Entry, entries, IsOrdered};
 ghost use Rattle.sstable_blocks.specs.RunReading.{hashes};
 ghost use Rattle.sstable_blocks.specs.Sound.{IsSound};
 
@@ -18,9 +16,10 @@ use crate::entries::entries_in;
 use crate::hash::Hash;
 use crate::keys::keys_in;
 use crate::sums::search_sum;
-use sst_base::{HashRatio, InternalValue, Slice, Steps};
-use sst_block_core::DataBlock;
-use sstable_blocks::{RunConfig, RunHandles, cuts_fit, read_entry, write_run};
+use sstable_blocks::{
+    DataBlock, HashRatio, InternalValue, RunConfig, RunHandles, Slice, Steps, cuts_fit, read_entry,
+    write_run,
+};
 use std::alloc::Global;
 
 // The cuts of a list into blocks of this many entries, the last perhaps of fewer.

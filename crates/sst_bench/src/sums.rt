@@ -1,8 +1,8 @@
 //! Sums of the parts of items and entries, modulo 2^64: what calls that read return.
-use sst_base::InternalValue;
-use sst_base::table::util::SliceIndexes;
-use sst_block_core::table::data_block::EntryView;
-use sst_block_core::{DataBlockParsedItem, IndexBlockParsedItem};
+use sstable_blocks::table::data_block::DataBlockParsedItem;
+use sstable_blocks::table::index_block::IndexBlockParsedItem;
+use sstable_blocks::table::util::SliceIndexes;
+use sstable_blocks::{EntryView, InternalValue};
 
 // Start and end of a range, each times a factor.
 #[inline(always)]

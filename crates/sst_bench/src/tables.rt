@@ -2,8 +2,8 @@
 //!
 //! The arguments are those of the calls of `run`.
 ghost use Rattle.std.specs.Prelude.{◌≡◌, ◌≤◌, List};
-ghost use Rattle.sst_base.specs.Entry.{Entry};
 ghost use Rattle.sst_bench.specs.Hash.{hash64, hash128};
+ghost use Rattle.sstable_blocks.specs.Prelude.{Entry};
 ghost use Rattle.sstable_blocks.specs.RunReading.{hashes};
 ghost use Rattle.sstable_blocks.specs.Sound.{IsSound};
 
@@ -14,10 +14,11 @@ use crate::keys::keys_in;
 use crate::run::run_in;
 use crate::sums::{Summed, made_sum};
 use crate::views::add_views_found;
-use sst_base::{HashRatio, InternalValue, Slice, Steps};
 use sst_merge::Source;
 use sstable_blocks::run::{RunRef, check, shared_entry};
-use sstable_blocks::{FrameSource, MemorySource, RunConfig, RunHandles, Table};
+use sstable_blocks::{
+    FrameSource, HashRatio, InternalValue, MemorySource, RunConfig, RunHandles, Slice, Steps, Table,
+};
 use std::alloc::Global;
 
 // Reads the entry of a needle, which shares the bytes of the run.

@@ -3,8 +3,8 @@
 //! The arguments are those of the calls of `run` and `merges`. Where `made` is not 0 each entry is
 //! made as well.
 ghost use Rattle.std.specs.Prelude.{◌≡◌, ◌≤◌, List};
-ghost use Rattle.sst_base.specs.Entry.{Entry};
 ghost use Rattle.sst_bench.specs.Hash.{hash64, hash128};
+ghost use Rattle.sstable_blocks.specs.Prelude.{Entry};
 ghost use Rattle.sstable_blocks.specs.RunReading.{hashes};
 ghost use Rattle.sstable_blocks.specs.Sound.{IsSound};
 
@@ -16,12 +16,12 @@ use crate::merges::{Stored, add_sources, all_checked, push_head, runs_in};
 use crate::run::run_in;
 use crate::sums::{Summed, found_sum, made_sum};
 use crate::tables::{Asked, add_all, opened_in};
-use sst_base::{BlockHash, HashRatio, InternalValue, Slice, Steps};
-use sst_block_core::DataBlock;
-use sst_block_core::table::data_block::{DataBlockRef, EntryView};
 use sst_merge::{Head, Merge, Source};
 use sstable_blocks::run::{RunRef, RunScan};
-use sstable_blocks::{RunConfig, RunHandles};
+use sstable_blocks::table::data_block::DataBlockRef;
+use sstable_blocks::{
+    BlockHash, DataBlock, EntryView, HashRatio, InternalValue, RunConfig, RunHandles, Slice, Steps,
+};
 use std::alloc::Global;
 
 // A scan whose first entry is held.

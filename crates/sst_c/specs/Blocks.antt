@@ -1,10 +1,7 @@
 -- Blocks that are known to be one, and where the parts of an entry are.
 use Rattle.std.specs.Prelude.{◌≡◌, ℕ, ◌+◌, ◌≤◌, ◌<◌, ◌^◌, List, ◌++◌, length, take, drop, Option, Some, None}
-use Rattle.sst_base.specs.Entry.{Entry, IsEntry}
 use Rattle.xxh3.specs.Xxh3.{xxh3_64}
-use Rattle.sst_base.specs.ValueType.{value_type_byte}
-use Rattle.sst_block_core.specs.Entries.{entries}
-use Rattle.sst_block_core.specs.Payload.{IsBlock}
+use Rattle.sstable_blocks.specs.Prelude.{Entry, IsEntry, value_type_byte, entries, IsBlock}
 use Rattle.sst_c.specs.declared.codes.Status.{Status}
 use Rattle.sst_c.specs.declared.codes.Status.TheVariants.{Done, NotFound}
 use Rattle.sst_c.specs.declared.data_block.SstPlace.{SstPlace}

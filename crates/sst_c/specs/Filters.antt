@@ -1,7 +1,6 @@
 -- Filters in a caller's buffers.
 use Rattle.std.specs.Prelude.{◌≡◌, ℕ, ◌*◌, ◌≤◌, List, Result, Ok, Err}
-use Rattle.sst_base.specs.declared.error.Error.{Error}
-use Rattle.sst_base.specs.declared.error.Error.TheVariants.{Memory}
+use Rattle.sstable_blocks.specs.Results.{Error, Memory}
 use Rattle.sstable_blocks.specs.Filter.{Filter, bit_count, filter_payload, probe_count, IsFilterOf, MayContain}
 use Rattle.sst_c.specs.Given.{AreKept, IsWrittenOut}
 use Rattle.sst_c.specs.declared.codes.Status.{Status}

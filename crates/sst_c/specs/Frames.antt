@@ -1,12 +1,9 @@
 -- Frames in a caller's buffers.
 use Rattle.std.specs.Prelude.{◌≡◌, ◌⊎◌, ℕ, ◌≤◌, ◌^◌, List, length, Ok, Err}
-use Rattle.sst_base.specs.Block.{BlockParts}
-use Rattle.sst_base.specs.BlockType.{block_type_byte, block_type_of}
-use Rattle.sst_base.specs.Frame.{frame, frame_in}
 use Rattle.xxh3.specs.Xxh3.{xxh3_128}
-use Rattle.sst_base.specs.declared.error.Error.{Error}
-use Rattle.sst_base.specs.declared.error.Error.TheVariants.{TooLong, Memory}
-use Rattle.sst_base.specs.declared.table.block.block_type.BlockType.{BlockType}
+use Rattle.sstable_blocks.specs.Prelude.{BlockParts, block_type_byte, block_type_of, frame, frame_in}
+use Rattle.sstable_blocks.specs.Results.{Error, TooLong, Memory}
+use Rattle.sstable_blocks.specs.BlockTypes.{BlockType}
 use Rattle.sst_c.specs.Given.{AreKept, IsWrittenOut}
 use Rattle.sst_c.specs.declared.codes.Status.{Status}
 use Rattle.sst_c.specs.declared.codes.Status.TheVariants.{Done, Failed, BadArgument}

@@ -1,14 +1,9 @@
 -- Entries as C gives them, and what becomes of their encoding.
 use Rattle.std.specs.Prelude.{◌≡◌, ◌⊎◌, ℕ, ◌≤◌, ◌<◌, ◌^◌, List, ◌++◌, length, map, drop}
 use Rattle.std.specs.List.{AllByRecursion}
-use Rattle.sst_base.specs.Entry.{Entry, IsEntry}
 use Rattle.xxh3.specs.Xxh3.{xxh3_64}
-use Rattle.sst_base.specs.ValueType.{value_type_byte}
-use Rattle.sst_base.specs.declared.error.Error.{Error}
-use Rattle.sst_base.specs.declared.error.Error.TheVariants.{TooLong, Memory}
-use Rattle.sst_block_core.specs.Buckets.{bucket_count}
-use Rattle.sst_block_core.specs.Entries.{entries, data_payload}
-use Rattle.sst_block_core.specs.Kind.{IsOrdered}
+use Rattle.sstable_blocks.specs.Prelude.{Entry, IsEntry, value_type_byte, bucket_count, entries, data_payload, IsOrdered}
+use Rattle.sstable_blocks.specs.Results.{Error, TooLong, Memory}
 use Rattle.sst_c.specs.declared.codes.Status.{Status}
 use Rattle.sst_c.specs.declared.codes.Status.TheVariants.{Done, Failed, BadArgument, NoRoom}
 use Rattle.sst_c.specs.declared.entries.SstEntry.{SstEntry}

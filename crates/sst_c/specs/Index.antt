@@ -1,12 +1,8 @@
 -- Index blocks, and the handle that leads to a key.
 use Rattle.std.specs.Prelude.{◌≡◌, ◌⊎◌, ℕ, ◌≤◌, ◌<◌, ◌^◌, List, length, map, slice_get, Option, Some, None}
 use Rattle.std.specs.List.{AllByRecursion}
-use Rattle.sst_base.specs.BlockHandle.{HandleParts}
-use Rattle.sst_base.specs.declared.error.Error.{Error}
-use Rattle.sst_base.specs.declared.error.Error.TheVariants.{TooLong, Memory}
-use Rattle.sst_block_core.specs.Kind.{IsOrdered}
-use Rattle.sst_block_core.specs.Window.{count_passed}
-use Rattle.sst_block_core.specs.Handles.{Handle, handles, index_payload, EndFits, IsIndexBlock}
+use Rattle.sstable_blocks.specs.Prelude.{HandleParts, IsOrdered, count_passed, Handle, handles, index_payload, EndFits, IsIndexBlock}
+use Rattle.sstable_blocks.specs.Results.{Error, TooLong, Memory}
 use Rattle.sst_c.specs.Given.{AreKept, IsWrittenOut}
 use Rattle.sst_c.specs.declared.codes.Status.{Status}
 use Rattle.sst_c.specs.declared.codes.Status.TheVariants.{Done, Failed, NotFound, BadArgument}

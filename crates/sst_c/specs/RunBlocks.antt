@@ -1,8 +1,6 @@
 -- The blocks of a run, one by one.
 use Rattle.std.specs.Prelude.{◌≡◌, ℕ, List, map, Option, None, Some}
-use Rattle.sst_base.specs.Entry.{Entry, plain}
-use Rattle.sst_block_core.specs.Handles.{Handle, handles}
-use Rattle.sst_block_core.specs.Window.{count_passed}
+use Rattle.sstable_blocks.specs.Prelude.{Entry, plain, Handle, handles, count_passed}
 use Rattle.sst_c.specs.Listing.{IsListing}
 use Rattle.sst_c.specs.declared.codes.Status.{Status}
 use Rattle.sst_c.specs.declared.codes.Status.TheVariants.{NotFound}

@@ -1,11 +1,8 @@
 -- Runs in a caller's buffers.
 use Rattle.std.specs.Prelude.{◌≡◌, ◌⊎◌, ℕ, ◌==◌, ◌≤◌, if◌then◌else◌, List, length, Some, None, Err}
-use Rattle.sst_base.specs.Entry.{Entry}
 use Rattle.xxh3.specs.Xxh3.{xxh3_64, xxh3_128}
-use Rattle.sst_base.specs.declared.error.Error.{Error}
-use Rattle.sst_base.specs.declared.error.Error.TheVariants.{TooLong, Memory}
-use Rattle.sst_block_core.specs.Entries.{entries}
-use Rattle.sst_block_core.specs.Kind.{IsOrdered}
+use Rattle.sstable_blocks.specs.Prelude.{Entry, entries, IsOrdered}
+use Rattle.sstable_blocks.specs.Results.{Error, TooLong, Memory}
 use Rattle.sstable_blocks.specs.Blocks.{CutsFit, blocks_of}
 use Rattle.sstable_blocks.specs.Run.{Form, form, IsLayout, IsWritable, RunFits}
 use Rattle.sstable_blocks.specs.RunChecks.{check_run, summary_of}

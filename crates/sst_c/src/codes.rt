@@ -2,7 +2,7 @@
 ghost use Rattle.std.specs.Prelude.{◌≡◌};
 ghost use Rattle.sst_c.specs.Codes.{code_of, error_number};
 
-use sst_base::Error;
+use sstable_blocks::Error;
 
 /// What became of a call.
 #[derive(Clone, Copy, Debug)]

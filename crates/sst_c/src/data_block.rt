@@ -1,31 +1,25 @@
 //! Data blocks.
 ghost use Rattle.std.specs.Prelude.{◌≡◌, ◌⊎◌, ◌+◌, ◌≤◌, ◌<◌, ◌^◌, List, length, IfOk, IfErr};
-ghost use Rattle.sst_base.specs.Entry.{Entry};
 ghost use Rattle.xxh3.specs.Xxh3.{xxh3_64};
-ghost use Rattle.sst_block_core.specs.Entries.{entries};
-ghost use Rattle.sst_block_core.specs.Found.{IsOptionalRange, optional_range};
-ghost use Rattle.sst_block_core.specs.Stages.{items_in};
-ghost use Rattle.sst_block_core.specs.Window.{first_match};
-ghost use Rattle.sst_block_core.specs.Checks.{data_check};
-ghost use Rattle.sst_block_core.specs.Trailer.{trailer_in};
-ghost use Rattle.sst_block_core.specs.ParsedEntry.{entry_of, IsParsedEntry};
 ghost use Rattle.sst_c.specs.Blocks.{bytes_behind, IsAnswer, IsDataBlock, IsFind, IsPartAt};
 ghost use Rattle.sst_c.specs.Blocks.{IsPlaceOf};
 ghost use Rattle.sst_c.specs.Checks.{IsCheck, IsRefusedOrLacks};
 ghost use Rattle.sst_c.specs.Codes.{code_of};
-ghost use Rattle.sst_c.specs.Given.{CanEncode, IsEncode};
-ghost use Rattle.sst_c.specs.Listing.{AreListed, IsListing};
 ghost use Rattle.sst_c.specs.declared.codes.Status.{Status};
 ghost use Rattle.sst_c.specs.declared.codes.Status.TheVariants.{Failed, BadArgument};
-ghost use Rattle.sst_base.specs.declared.error.Error.TheVariants.{Memory};
+ghost use Rattle.sst_c.specs.Given.{CanEncode, IsEncode};
+ghost use Rattle.sst_c.specs.Listing.{AreListed, IsListing};
+ghost use Rattle.sstable_blocks.specs.Prelude.{Entry, entries, IsOptionalRange, optional_range};
+ghost use Rattle.sstable_blocks.specs.Prelude.{items_in, first_match, data_check, trailer_in};
+ghost use Rattle.sstable_blocks.specs.Prelude.{entry_of, IsParsedEntry};
+ghost use Rattle.sstable_blocks.specs.Results.{Memory};
 
 use crate::codes::Status;
 use crate::entries::{SstEntry, items_of};
 use crate::output::write_bytes;
-use sst_base::table::util::SliceIndexes;
-use sst_base::{HashRatio, SeqNo, Steps};
-use sst_block_core::{DataBlock, DataBlockParsedItem, DataBlockRef, EntryView};
-use sstable_blocks::Xxh3;
+use sstable_blocks::table::data_block::{DataBlockParsedItem, DataBlockRef};
+use sstable_blocks::table::util::SliceIndexes;
+use sstable_blocks::{DataBlock, EntryView, HashRatio, SeqNo, Steps, Xxh3};
 use std::alloc::Global;
 
 /// Where the parts of an entry are in a payload: its user key is the prefix and then the key's own

@@ -1,13 +1,12 @@
 //! Entries as C gives them.
 ghost use Rattle.std.specs.Prelude.{◌≡◌, ◌⊎◌, List, IfOk, IfErr, IfSome, IsNone};
-ghost use Rattle.sst_base.specs.Entry.{Entry};
-ghost use Rattle.sst_base.specs.declared.error.Error.TheVariants.{Memory};
-ghost use Rattle.sst_c.specs.Given.{AreGiven, IsGiven};
 ghost use Rattle.sst_c.specs.declared.codes.Status.TheVariants.{Failed, BadArgument};
+ghost use Rattle.sst_c.specs.Given.{AreGiven, IsGiven};
+ghost use Rattle.sstable_blocks.specs.Prelude.{Entry};
+ghost use Rattle.sstable_blocks.specs.Results.{Memory};
 
 use crate::codes::Status;
-use sst_base::{Error, ValueType};
-use sst_block_core::EntryView;
+use sstable_blocks::{EntryView, Error, ValueType};
 use std::alloc::Global;
 
 /// An entry: its key of 1 to 65535 bytes, its value of at most 2^32 - 1 bytes, its sequence number,

@@ -8,10 +8,9 @@ ghost use Rattle.sstable_blocks.specs.Filter.{filter_at, IsFilterOf};
 
 use crate::codes::Status;
 use crate::output::write_bytes;
-use sst_base::{BlockHash, Error, Result};
-use sstable_blocks::Xxh3;
 use sstable_blocks::table::filter::policy::BloomConstructionPolicy;
 use sstable_blocks::table::filter::standard_bloom::{Builder, StandardBloomFilterReader};
+use sstable_blocks::{BlockHash, Error, Result, Xxh3};
 use std::alloc::Global;
 
 // What the filter in any bytes says of a key.

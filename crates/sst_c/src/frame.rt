@@ -1,16 +1,15 @@
 //! Frames: a header of 33 bytes with checksums, and a payload.
 ghost use Rattle.std.specs.Prelude.{◌≡◌, ◌⊎◌, ◌≤◌, ◌^◌, length, IfOk, IfErr};
-ghost use Rattle.sst_base.specs.Frame.{frame};
 ghost use Rattle.xxh3.specs.Xxh3.{xxh3_128};
-ghost use Rattle.sst_base.specs.declared.error.Error.TheVariants.{Memory, TooLong};
 ghost use Rattle.sst_c.specs.Codes.{code_of};
-ghost use Rattle.sst_c.specs.Frames.{IsFrameCheck, IsFrameWrite};
 ghost use Rattle.sst_c.specs.declared.codes.Status.{Status};
+ghost use Rattle.sst_c.specs.Frames.{IsFrameCheck, IsFrameWrite};
+ghost use Rattle.sstable_blocks.specs.Prelude.{frame};
+ghost use Rattle.sstable_blocks.specs.Results.{Memory, TooLong};
 
 use crate::codes::Status;
 use crate::output::write_bytes;
-use sst_base::{Block, BlockType, Error, Result, Slice};
-use sstable_blocks::Xxh3;
+use sstable_blocks::{Block, BlockType, Error, Result, Slice, Xxh3};
 use std::alloc::Global;
 
 // The frame of a payload.

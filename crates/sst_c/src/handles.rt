@@ -1,15 +1,13 @@
 //! Handles as C gives them.
 ghost use Rattle.std.specs.Prelude.{◌≡◌, ◌⊎◌, length, map, IfOk, IfErr};
 ghost use Rattle.std.specs.List.{AllByRecursion};
-ghost use Rattle.sst_base.specs.declared.error.Error.TheVariants.{Memory};
-ghost use Rattle.sst_c.specs.Index.{handle_given, HasEndKey};
 ghost use Rattle.sst_c.specs.declared.codes.Status.TheVariants.{Failed, BadArgument};
+ghost use Rattle.sst_c.specs.Index.{handle_given, HasEndKey};
+ghost use Rattle.sstable_blocks.specs.Results.{Memory};
 
 use crate::codes::Status;
-use sst_base::key::MAX_KEY_LEN;
-use sst_base::table::block::{BlockHandle, BlockOffset};
-use sst_base::{Error, Slice};
-use sst_block_core::KeyedBlockHandle;
+use sstable_blocks::key::MAX_KEY_LEN;
+use sstable_blocks::{BlockHandle, BlockOffset, Error, KeyedBlockHandle, Slice};
 use std::alloc::Global;
 
 /// A handle of a data block: the key and the sequence number of its last entry, and where its frame

@@ -1,24 +1,20 @@
 //! Index blocks.
 ghost use Rattle.std.specs.Prelude.{◌≡◌, ◌⊎◌, ◌^◌, length, map, IfOk, IfErr};
-ghost use Rattle.sst_block_core.specs.Stages.{items_in};
-ghost use Rattle.sst_block_core.specs.Checks.{index_check};
-ghost use Rattle.sst_block_core.specs.Handles.{handles};
 ghost use Rattle.sst_c.specs.Checks.{IsCheck, IsCheckRefused};
 ghost use Rattle.sst_c.specs.Codes.{code_of};
-ghost use Rattle.sst_base.specs.declared.error.Error.TheVariants.{Memory};
-ghost use Rattle.sst_c.specs.Index.{first_for, handle_given, CanEncodeHandles, IsHandleAnswer};
-ghost use Rattle.sst_c.specs.Index.{IsHandleFind, IsIndexEncode, IsIndexPayload};
 ghost use Rattle.sst_c.specs.declared.codes.Status.{Status};
 ghost use Rattle.sst_c.specs.declared.codes.Status.TheVariants.{Failed, BadArgument};
+ghost use Rattle.sst_c.specs.Index.{first_for, handle_given, CanEncodeHandles, IsHandleAnswer};
+ghost use Rattle.sst_c.specs.Index.{IsHandleFind, IsIndexEncode, IsIndexPayload};
+ghost use Rattle.sstable_blocks.specs.Prelude.{items_in, index_check, handles};
+ghost use Rattle.sstable_blocks.specs.Results.{Memory};
 
 use crate::codes::Status;
 use crate::handles::{SstKeyedHandle, items_of};
 use crate::output::write_bytes;
-use sst_base::table::block::BlockHandle;
-use sst_base::{SeqNo, Steps};
-use sst_block_core::table::block::bound::Bound;
-use sst_block_core::table::index_block::IndexBlockRef;
-use sst_block_core::{IndexBlock, KeyedBlockHandle};
+use sstable_blocks::table::block::bound::Bound;
+use sstable_blocks::table::index_block::IndexBlockRef;
+use sstable_blocks::{BlockHandle, IndexBlock, KeyedBlockHandle, SeqNo, Steps};
 use std::alloc::Global;
 
 /// Where the frame of a block is.

@@ -1,35 +1,33 @@
 //! Runs: blocks, their index and their filter in one string of bytes.
 ghost use Rattle.std.specs.Prelude.{◌≡◌, ◌⊎◌, ◌+◌, ◌<◌, ◌^◌, List, IfOk, IfErr, IfSome, IsOkUnless};
-ghost use Rattle.sst_base.specs.Entry.{Entry};
-ghost use Rattle.sst_block_core.specs.Entries.{entries};
-ghost use Rattle.sst_block_core.specs.Window.{first_match};
-ghost use Rattle.sst_block_core.specs.ParsedEntry.{entry_of, IsParsedEntry};
-ghost use Rattle.sstable_blocks.specs.Blocks.{blocks_of, joined};
-ghost use Rattle.sstable_blocks.specs.Opened.{IsFrameRange, payload_in};
-ghost use Rattle.sstable_blocks.specs.Run.{IsLayout, RunFits};
-ghost use Rattle.sstable_blocks.specs.Sound.{IsSound};
-ghost use Rattle.sst_base.specs.declared.error.Error.TheVariants.{Memory, TooLong};
 ghost use Rattle.sst_c.specs.Blocks.{IsAnswer, IsFind, IsPartAt, IsPlaceOf};
 ghost use Rattle.sst_c.specs.Codes.{code_of};
-ghost use Rattle.sst_c.specs.Runs.{config_given, handles_given, run_form, run_hashes};
-ghost use Rattle.sst_c.specs.Given.{IsWrittenOut};
-ghost use Rattle.sst_c.specs.Runs.{AreTold, CanWrite, IsRunCheck, IsRunWrite};
 ghost use Rattle.sst_c.specs.declared.codes.Status.{Status};
-ghost use Rattle.sst_c.specs.declared.entries.SstEntry.{SstEntry};
 ghost use Rattle.sst_c.specs.declared.codes.Status.TheVariants.{Failed, BadArgument};
+ghost use Rattle.sst_c.specs.declared.entries.SstEntry.{SstEntry};
+ghost use Rattle.sst_c.specs.Given.{IsWrittenOut};
+ghost use Rattle.sst_c.specs.Runs.{config_given, handles_given, run_form, run_hashes};
+ghost use Rattle.sst_c.specs.Runs.{AreTold, CanWrite, IsRunCheck, IsRunWrite};
+ghost use Rattle.sstable_blocks.specs.Blocks.{blocks_of, joined};
+ghost use Rattle.sstable_blocks.specs.Opened.{IsFrameRange, payload_in};
+ghost use Rattle.sstable_blocks.specs.Prelude.{Entry, entries, first_match, entry_of};
+ghost use Rattle.sstable_blocks.specs.Prelude.{IsParsedEntry};
+ghost use Rattle.sstable_blocks.specs.Results.{Memory, TooLong};
+ghost use Rattle.sstable_blocks.specs.Run.{IsLayout, RunFits};
+ghost use Rattle.sstable_blocks.specs.Sound.{IsSound};
 
 use crate::codes::Status;
 use crate::data_block::{SstPlace, place_at};
 use crate::entries::{SstEntry, items_of};
 use crate::output::write_bytes;
-use sst_base::table::block::header::HEADER_LEN;
-use sst_base::table::block::{BlockHandle, BlockOffset};
-use sst_base::{Error, HashRatio, SeqNo, Steps};
-use sst_block_core::DataBlock;
-use sst_block_core::table::data_block::{DataBlockParsedItem, EntryView};
 use sstable_blocks::run::RunRef;
 use sstable_blocks::run::laws::sound_opens;
-use sstable_blocks::{RunConfig, RunHandles, Xxh3, cuts_fit, write_run};
+use sstable_blocks::table::block::header::HEADER_LEN;
+use sstable_blocks::table::data_block::DataBlockParsedItem;
+use sstable_blocks::{
+    BlockHandle, BlockOffset, DataBlock, EntryView, Error, HashRatio, RunConfig, RunHandles, SeqNo,
+    Steps, Xxh3, cuts_fit, write_run,
+};
 use std::alloc::Global;
 
 /// Where the frames of a run's index and of its filter are.

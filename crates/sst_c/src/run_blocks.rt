@@ -1,27 +1,22 @@
 //! The blocks of a run, one by one: what a scan in C is made of.
 ghost use Rattle.std.specs.Prelude.{◌≡◌, ℕ, List, length, slice_get};
-ghost use Rattle.sst_base.specs.Entry.{Entry, IsEntry};
-ghost use Rattle.sst_block_core.specs.Entries.{entries};
-ghost use Rattle.sst_block_core.specs.Payload.{IsBlock};
-ghost use Rattle.sst_block_core.specs.Stages.{items_in};
-ghost use Rattle.sstable_blocks.specs.Opened.{IsFrameRange, index_in, payload_in};
-ghost use Rattle.sstable_blocks.specs.Sound.{ForSound, IsSoundRun};
 ghost use Rattle.sst_c.specs.Codes.{code_of};
+ghost use Rattle.sst_c.specs.declared.codes.Status.{Status};
 ghost use Rattle.sst_c.specs.Listing.{IsListing};
 ghost use Rattle.sst_c.specs.RunBlocks.{IsBlockListing, blocks_before};
 ghost use Rattle.sst_c.specs.Runs.{handles_given, run_hashes};
-ghost use Rattle.sst_c.specs.declared.codes.Status.{Status};
+ghost use Rattle.sstable_blocks.specs.Opened.{IsFrameRange, index_in, payload_in};
+ghost use Rattle.sstable_blocks.specs.Prelude.{Entry, IsEntry, entries, IsBlock, items_in};
+ghost use Rattle.sstable_blocks.specs.Sound.{ForSound, IsSoundRun};
 ghost use Rattle.xxh3.specs.Xxh3.{xxh3_64};
 
 use crate::codes::Status;
 use crate::data_block::{SstPlace, list};
 use crate::run::{SstRunHandles, payload_of, run_handles, start_of};
-use sst_base::Steps;
-use sst_base::table::block::BlockHandle;
-use sst_block_core::table::block::bound::Bound;
-use sst_block_core::table::index_block::IndexBlockRef;
-use sstable_blocks::RunHandles;
 use sstable_blocks::run::laws::sound_opens;
+use sstable_blocks::table::block::bound::Bound;
+use sstable_blocks::table::index_block::IndexBlockRef;
+use sstable_blocks::{BlockHandle, RunHandles, Steps};
 
 // The index of a sound run.
 #[tactic(auto, using(sstable_blocks::specs::RunLaws::payload_fits))]

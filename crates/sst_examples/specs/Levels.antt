@@ -1,13 +1,9 @@
 -- What a store holds: versions in memory and in tables.
 use Rattle.std.specs.Prelude.{◌≡◌, ◌≢◌, ℕ, ◌+◌, ◌^◌, ◌<◌, ◌≤◌, ◌⊎◌, List, [], Option, Some, None}
 use Rattle.std.specs.List.{AllByRecursion}
-use Rattle.sst_base.specs.Entry.{Entry, plain}
-use Rattle.sst_base.specs.declared.error.Error.{Error}
-use Rattle.sst_base.specs.declared.error.Error.TheVariants.{Memory, TooLong}
-use Rattle.sst_base.specs.declared.value_type.ValueType.{ValueType}
-use Rattle.sst_block_core.specs.Entries.{entries}
-use Rattle.sst_block_core.specs.Kind.{IsOrdered}
-use Rattle.sst_block_core.specs.Window.{first_match}
+use Rattle.sstable_blocks.specs.Prelude.{Entry, plain, entries, IsOrdered, first_match}
+use Rattle.sstable_blocks.specs.Results.{Error, Memory, TooLong}
+use Rattle.sstable_blocks.specs.ValueTypes.{ValueType}
 use Rattle.sst_merge.specs.Merge.{entry_cmp, merge}
 use Rattle.sst_merge.specs.Snapshot.{seen}
 

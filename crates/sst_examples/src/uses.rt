@@ -3,10 +3,7 @@
 ghost use Rattle.std.specs.Prelude.{◌≡◌, ◌≤◌, ◌++◌, length, map};
 ghost use Rattle.std.specs.Prelude.{nat_lt, count_by, IfOk};
 ghost use Rattle.std.specs.Prelude.{IsOkUnless};
-ghost use Rattle.sst_base.specs.Entry.{plain};
-ghost use Rattle.sst_block_core.specs.Entries.{entries};
-ghost use Rattle.sst_block_core.specs.Kind.{IsOrdered};
-ghost use Rattle.sst_block_core.specs.Window.{first_match};
+ghost use Rattle.sstable_blocks.specs.Prelude.{plain, entries, IsOrdered, first_match};
 
 use sstable_blocks::{
     Block, BlockType, DataBlock, Error, HashRatio, InternalValue, Result, SeqNo, Slice, Steps, Xxh3,

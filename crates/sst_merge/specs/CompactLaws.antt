@@ -9,15 +9,12 @@ use Rattle.std.specs.List.{list_any, list_all}
 use Rattle.std.specs.Ordering.{nat_cmp, is_eq, ordering_then}
 use Rattle.std.specs.declared.cmp.Ordering.{Ordering}
 use Rattle.std.specs.declared.cmp.Ordering.TheVariants.{Less, Equal}
-use Rattle.sst_base.specs.Entry.{Entry}
-use Rattle.sst_base.specs.KeyOrderLaws.{slice_cmp-equal}
-use Rattle.sst_base.specs.Order.{IsInOrder}
-use Rattle.sst_merge.specs.Compact.{is_seen, is_parted, is_below_all, IsKeptRead, is_hidden, is_dropped, unless_bottom, compact_from, compacted}
-use Rattle.sst_block_core.specs.Tombstones.{is_tombstone}
+use Rattle.sstable_blocks.specs.Prelude.{Entry, IsInOrder, is_tombstone}
+use Rattle.sstable_blocks.specs.BlockLaws.{slice_cmp-equal, and_parts, eq_is}
+use Rattle.sst_merge.specs.Compact.{is_seen, is_parted, is_below_all, IsKeptRead, is_hidden, is_parted_from, is_left_under, is_dropped, unless_dropped, compact_from, compacted}
 use Rattle.sst_merge.specs.Snapshot.{has_last_key}
 use Rattle.sst_merge.specs.SnapshotReads.{both_false, key, number, has, is_match, has_key, NoneHas, order, after_by, none_behind, skip}
 use Rattle.sst_merge.specs.ListLaws.{first, first_hit, first_miss, and_not_parts}
-use Rattle.sst_base.specs.TestLaws.{and_parts, eq_is}
 use Rattle.sstable_blocks.specs.EndLaws.{tail_in_order}
 
 -- where no snapshot parts two numbers, a kept read that sees the one sees the other
@@ -39,17 +36,40 @@ read_by : (ss : List ℕ) (q p r : ℕ) → IsKeptRead ss r → is_seen ss q ≡
 read_by ss q p r (inl at) seen h low up = at_one ss q p r at h low up
 read_by ss q p r (inr all) seen h low up = at_all ss q p r all seen h up
 
--- below all snapshots none parts, and none is seen less
-pub not_parted : (ss : List ℕ) (q p : ℕ) → is_below_all ss p ≡ true → is_parted ss q p ≡ false
+-- below all snapshots none parts
+not_parted : (ss : List ℕ) (q p : ℕ) → is_below_all ss p ≡ true → is_parted ss q p ≡ false
 not_parted [] q p h = refl
 not_parted (s ∷ ss) q p h = let k = not_parted ss q p (grind (arith, nat_tests)) in grind (arith, nat_tests)
 
-seen_lower : (ss : List ℕ) (q p : ℕ) → is_seen ss p ≡ true → q ≤ p → is_seen ss q ≡ true
+-- what is lower is seen too
+pub seen_lower : (ss : List ℕ) (q p : ℕ) → is_seen ss p ≡ true → q ≤ p → is_seen ss q ≡ true
 seen_lower [] q p h up = h
 seen_lower (s ∷ ss) q p h up = elim (cases_Bool (nat_lt p s)) [
   | inl here ↦ grind (arith, nat_tests)
   | inr other ↦ let k = seen_lower ss q p (grind (arith, nat_tests)) up in grind (arith, nat_tests)
 ]
+
+-- of the last key a version is hidden or parted
+pub not_hidden_parted : (a b : Bool) → a ≡ true → (a && not b) ≡ false → (a && b) ≡ true
+not_hidden_parted true true h k = refl
+not_hidden_parted true false h k = absurd (cc)
+not_hidden_parted false b h k = absurd (cc)
+
+module _ {X : Type 0} (entry : X → Entry) (ss : List ℕ) where
+  -- a version that the last one hides is passed, another decides whether one is left under it
+  pub under_passed : (l : List ℕ × ℕ) (x : X) (xs : List X) → is_seen ss (entry x).key.seqno ≡ true → is_hidden entry ss (Some l) x ≡ true → is_left_under entry ss l (x ∷ xs) ≡ is_left_under entry ss l xs
+  under_passed l x xs h k = rw (h, k) refl
+
+  pub under_first : (l : List ℕ × ℕ) (x : X) (xs : List X) → is_hidden entry ss (Some l) x ≡ false → is_left_under entry ss l (x ∷ xs) ≡ is_parted_from entry ss l x
+  under_first l x xs h = ap (λ b. cond b (is_left_under entry ss l xs) (is_parted_from entry ss l x)) (both_false (is_seen ss (entry x).key.seqno) (is_hidden entry ss (Some l) x) h)
+
+  -- where every snapshot sees the last version, none is left under it
+  pub none_under : (l : List ℕ × ℕ) (xs : List X) → is_below_all ss l.1 ≡ true → is_left_under entry ss l xs ≡ false
+  none_under l [] h = refl
+  none_under l (x ∷ xs) h = elim (cases_Bool (is_seen ss (entry x).key.seqno && is_hidden entry ss (Some l) x)) [
+    | inl again ↦ ap (λ b. cond b (is_left_under entry ss l xs) (is_parted_from entry ss l x)) again ∙ none_under l xs h
+    | inr fresh ↦ ap (λ b. cond b (is_left_under entry ss l xs) (is_parted_from entry ss l x)) fresh ∙ both_false (has_last_key entry (Some l.0) x) (is_parted ss (entry x).key.seqno l.1) (not_parted ss (entry x).key.seqno l.1 h)
+  ]
 
 module _ {X : Type 0} (entry : X → Entry) (ss : List ℕ) (bottom : List ℕ → Bool) where
   abbrev pub go : Option (List ℕ × ℕ) → List X → List X
@@ -66,22 +86,14 @@ module _ {X : Type 0} (entry : X → Entry) (ss : List ℕ) (bottom : List ℕ �
   pub repeated : (last : Option (List ℕ × ℕ)) (x : X) (xs : List X) → is_seen ss (entry x).key.seqno ≡ true → is_hidden entry ss last x ≡ true → go last (x ∷ xs) ≡ go last xs
   repeated last x xs h k = rw (h, k) refl
 
-  pub newest : (last : Option (List ℕ × ℕ)) (x : X) (xs : List X) → is_seen ss (entry x).key.seqno ≡ true → is_hidden entry ss last x ≡ false → go last (x ∷ xs) ≡ unless_bottom entry ss bottom x (go (at x) xs)
+  pub newest : (last : Option (List ℕ × ℕ)) (x : X) (xs : List X) → is_seen ss (entry x).key.seqno ≡ true → is_hidden entry ss last x ≡ false → go last (x ∷ xs) ≡ unless_dropped entry ss bottom x xs (go (at x) xs)
   newest last x xs h k = rw (h, k) refl
 
-  dropped : (x : X) (es : List X) → is_dropped entry ss bottom x ≡ true → unless_bottom entry ss bottom x es ≡ es
-  dropped x es h = ap (λ b. cond b es (x ∷ es)) h
+  dropped : (x : X) (xs es : List X) → is_dropped entry ss bottom x xs ≡ true → unless_dropped entry ss bottom x xs es ≡ es
+  dropped x xs es h = ap (λ b. cond b es (x ∷ es)) h
 
-  stays : (x : X) (es : List X) → is_dropped entry ss bottom x ≡ false → unless_bottom entry ss bottom x es ≡ x ∷ es
-  stays x es h = ap (λ b. cond b es (x ∷ es)) h
-
-  three : (a b c : Bool) → (a && (b && c)) ≡ true → (a ≡ true) × (b ≡ true) × (c ≡ true)
-  three true true c h = (refl, refl, h)
-  three true false c h = absurd (cc)
-  three false b c h = absurd (cc)
-
-  and_two : (a b : Bool) → a ≡ true → b ≡ false → (a && not b) ≡ true
-  and_two a b h k = rw (h, k) refl
+  stays : (x : X) (xs es : List X) → is_dropped entry ss bottom x xs ≡ false → unless_dropped entry ss bottom x xs es ≡ x ∷ es
+  stays x xs es h = ap (λ b. cond b es (x ∷ es)) h
 
   module _ (k : List ℕ) (r : ℕ) where
     abbrev m : X → Bool
@@ -96,9 +108,9 @@ module _ {X : Type 0} (entry : X → Entry) (ss : List ℕ) (bottom : List ℕ �
           | inr above ↦ ap (first m) (kept last x xs above) ∙ first_miss m x (go last xs) miss ∙ c1 last xs h.1
           | inl below ↦ elim (cases_Bool (is_hidden entry ss last x)) [
             | inl again ↦ ap (first m) (repeated last x xs below again) ∙ c1 last xs h.1
-            | inr fresh ↦ ap (first m) (newest last x xs below fresh) ∙ elim (cases_Bool (is_dropped entry ss bottom x)) [
-              | inl gone ↦ ap (first m) (dropped x (go (at x) xs) gone) ∙ c1 (at x) xs h.1
-              | inr here ↦ ap (first m) (stays x (go (at x) xs) here) ∙ first_miss m x (go (at x) xs) miss ∙ c1 (at x) xs h.1
+            | inr fresh ↦ ap (first m) (newest last x xs below fresh) ∙ elim (cases_Bool (is_dropped entry ss bottom x xs)) [
+              | inl gone ↦ ap (first m) (dropped x xs (go (at x) xs) gone) ∙ c1 (at x) xs h.1
+              | inr here ↦ ap (first m) (stays x xs (go (at x) xs) here) ∙ first_miss m x (go (at x) xs) miss ∙ c1 (at x) xs h.1
             ]
           ]
         ]
@@ -115,16 +127,19 @@ module _ {X : Type 0} (entry : X → Entry) (ss : List ℕ) (bottom : List ℕ �
         let e : slice_cmp nat_cmp (key entry k r x) (key entry k r l) ≡ Equal = (slice_cmp-equal (key entry k r x) (key entry k r l)).1 same in
         older_by (number entry k r l) (number entry k r x) (λ w. up (ap (λ o. ordering_then o (nat_cmp (number entry k r l) (number entry k r x))) e ∙ w))
 
-    -- after a version of the key that every snapshot sees, no more of it is kept
-    c2 : (l : X) (xs : List X) → has entry k r l ≡ true → is_seen ss (number entry k r l) ≡ true → is_below_all ss (number entry k r l) ≡ true → IsInOrder (order entry k r) (l ∷ xs) → first m (go (at l) xs) ≡ None
-    c2 l [] mine seen low up = refl
-    c2 l (x ∷ xs) mine seen low up = elim (cases_Bool (has entry k r x)) [
+    -- after a version of the key under which none is left, no more of it is kept
+    c2 : (l : X) (xs : List X) → has entry k r l ≡ true → is_seen ss (number entry k r l) ≡ true → is_left_under entry ss ((entry l).key.user_key, (entry l).key.seqno) xs ≡ false → IsInOrder (order entry k r) (l ∷ xs) → first m (go (at l) xs) ≡ None
+    c2 l [] mine seen none up = refl
+    c2 l (x ∷ xs) mine seen none up = elim (cases_Bool (has entry k r x)) [
       | inl same ↦ (
+          let last : List ℕ × ℕ = ((entry l).key.user_key, (entry l).key.seqno) in
           let has_last : has_last_key entry (Some (entry l).key.user_key) x ≡ true = ap (λ b. is_eq (slice_cmp nat_cmp (key entry k r x) b)) (has_key entry k r l mine) ∙ same in
           let keys : key entry k r x ≡ key entry k r l = has_key entry k r x same ∙ sym (has_key entry k r l mine) in
           let below : is_seen ss (entry x).key.seqno ≡ true = seen_lower ss (number entry k r x) (number entry k r l) seen (older l x keys up.0) in
-          let again : is_hidden entry ss (at l) x ≡ true = and_two (has_last_key entry (Some (entry l).key.user_key) x) (is_parted ss (number entry k r x) (number entry k r l)) has_last (not_parted ss (number entry k r x) (number entry k r l) low) in
-          ap (first m) (repeated (at l) x xs below again) ∙ c2 l xs mine seen low (skip entry k r l x xs up))
+          elim (cases_Bool (is_hidden entry ss (at l) x)) [
+            | inl again ↦ ap (first m) (repeated (at l) x xs below again) ∙ c2 l xs mine seen (sym (under_passed entry ss last x xs below again) ∙ none) (skip entry k r l x xs up)
+            | inr fresh ↦ absurd (let f : true ≡ false = sym (under_first entry ss last x xs fresh ∙ not_hidden_parted (has_last_key entry (Some (entry l).key.user_key) x) (is_parted ss (entry x).key.seqno (entry l).key.seqno) has_last fresh) ∙ none in cc)
+          ])
       | inr other ↦ c1 (at l) (x ∷ xs) (other, none_behind entry k r x xs up.1 (after_by entry k r x l (slice_cmp nat_cmp (key entry k r x) k) refl (has_key entry k r l mine) other up.0))
     ]
 
@@ -170,22 +185,24 @@ module _ {X : Type 0} (entry : X → Entry) (ss : List ℕ) (bottom : List ℕ �
           | inl below ↦ elim (cases_Bool (m x)) [
             | inl hit ↦ elim (cases_Bool (is_hidden entry ss last x)) [
               | inl again ↦ absurd (let f : true ≡ false = not_hidden read last x o below hit again in cc)
-              | inr fresh ↦ elim (cases_Bool (is_dropped entry ss bottom x)) [
+              | inr fresh ↦ elim (cases_Bool (is_dropped entry ss bottom x xs)) [
                 | inl gone ↦ (
-                    let t = three (is_tombstone (entry x).key.value_type) (is_below_all ss (entry x).key.seqno) (bottom (entry x).key.user_key) gone in
+                    let under = is_left_under entry ss ((entry x).key.user_key, (entry x).key.seqno) xs in
+                    let t = and_parts (is_tombstone (entry x).key.value_type) (bottom (entry x).key.user_key && not under) gone in
+                    let u = and_not_parts (bottom (entry x).key.user_key) under t.1 in
                     let mine = (and_parts (nat_lt (number entry k r x) r) (has entry k r x) hit).1 in
                     inr (
-                      ap (first m) (newest last x xs below fresh ∙ dropped x (go (at x) xs) gone) ∙ c2 x xs mine below t.1 up,
-                      (x, first_hit m x xs hit, t.0, ap bottom (sym (has_key entry k r x mine)) ∙ t.2),
+                      ap (first m) (newest last x xs below fresh ∙ dropped x xs (go (at x) xs) gone) ∙ c2 x xs mine below u.1 up,
+                      (x, first_hit m x xs hit, t.0, ap bottom (sym (has_key entry k r x mine)) ∙ u.0),
                     ))
-                | inr here ↦ inl (ap (first m) (newest last x xs below fresh ∙ stays x (go (at x) xs) here) ∙ first_hit m x (go (at x) xs) hit ∙ sym (first_hit m x xs hit))
+                | inr here ↦ inl (ap (first m) (newest last x xs below fresh ∙ stays x xs (go (at x) xs) here) ∙ first_hit m x (go (at x) xs) hit ∙ sym (first_hit m x xs hit))
               ]
             ]
             | inr miss ↦ elim (cases_Bool (is_hidden entry ss last x)) [
               | inl again ↦ alike _ _ _ _ (ap (first m) (repeated last x xs below again)) (first_miss m x xs miss) (c3 read last xs o tail)
-              | inr fresh ↦ elim (cases_Bool (is_dropped entry ss bottom x)) [
-                | inl gone ↦ alike _ _ _ _ (ap (first m) (newest last x xs below fresh ∙ dropped x (go (at x) xs) gone)) (first_miss m x xs miss) (c3 read (at x) xs (passed_at x miss) tail)
-                | inr here ↦ alike _ _ _ _ (ap (first m) (newest last x xs below fresh ∙ stays x (go (at x) xs) here) ∙ first_miss m x (go (at x) xs) miss) (first_miss m x xs miss) (c3 read (at x) xs (passed_at x miss) tail)
+              | inr fresh ↦ elim (cases_Bool (is_dropped entry ss bottom x xs)) [
+                | inl gone ↦ alike _ _ _ _ (ap (first m) (newest last x xs below fresh ∙ dropped x xs (go (at x) xs) gone)) (first_miss m x xs miss) (c3 read (at x) xs (passed_at x miss) tail)
+                | inr here ↦ alike _ _ _ _ (ap (first m) (newest last x xs below fresh ∙ stays x xs (go (at x) xs) here) ∙ first_miss m x (go (at x) xs) miss) (first_miss m x xs miss) (c3 read (at x) xs (passed_at x miss) tail)
               ]
             ]
           ]
@@ -204,7 +221,7 @@ module _ {X : Type 0} (entry : X → Entry) (ss : List ℕ) (bottom : List ℕ �
     | inr above ↦ rw (kept last x xs above) (up.0, behind_one x last xs up.1)
     | inl below ↦ elim (cases_Bool (is_hidden entry ss last x)) [
       | inl again ↦ rw (repeated last x xs below again) (behind_one l last xs (skip entry [] 0 l x xs up))
-      | inr first_of ↦ rw (newest last x xs below first_of) (elim (cases_Bool (is_dropped entry ss bottom x)) [
+      | inr first_of ↦ rw (newest last x xs below first_of) (elim (cases_Bool (is_dropped entry ss bottom x xs)) [
         | inl gone ↦ rw gone (behind_one l (at x) xs (skip entry [] 0 l x xs up))
         | inr here ↦ rw here (up.0, behind_one x (at x) xs up.1)
       ])
@@ -217,7 +234,7 @@ module _ {X : Type 0} (entry : X → Entry) (ss : List ℕ) (bottom : List ℕ �
     | inr above ↦ rw (kept last x xs above) (behind_one x last xs up)
     | inl below ↦ elim (cases_Bool (is_hidden entry ss last x)) [
       | inl again ↦ rw (repeated last x xs below again) (in_order last xs (tail_in_order (order entry [] 0) x xs up))
-      | inr first_of ↦ rw (newest last x xs below first_of) (elim (cases_Bool (is_dropped entry ss bottom x)) [
+      | inr first_of ↦ rw (newest last x xs below first_of) (elim (cases_Bool (is_dropped entry ss bottom x xs)) [
         | inl gone ↦ rw gone (in_order (at x) xs (tail_in_order (order entry [] 0) x xs up))
         | inr here ↦ rw here (behind_one x (at x) xs up)
       ])

@@ -5,7 +5,7 @@ use Rattle.std.specs.List.{sum_by}
 use Rattle.std.proofs.Math.ListN.{set}
 use Rattle.std.proofs.lemmas.List.{drop_more, drop_all, take_all, get_or-map, length-map, get_or-set_other}
 use Rattle.std.proofs.lemmas.List.Sums.{sum_by-cons, sum_by_more}
-use Rattle.sst_base.specs.Counted.{Counted, CountsBetween}
+use Rattle.sstable_blocks.specs.Prelude.{Counted, CountsBetween}
 use Rattle.sst_merge.specs.Counts.{most_of}
 use Rattle.sst_merge.specs.SourceLaws.{known_split, known_length}
 use Rattle.sst_merge.specs.Sources.{all_known}

@@ -4,9 +4,8 @@ use Rattle.std.specs.Cmp.{nat_cmp_is}
 use Rattle.std.specs.Cmp.Lexicographic.{slice_cmp}
 use Rattle.std.specs.Ordering.{nat_cmp, ordering_then, is_lt}
 use Rattle.std.specs.declared.cmp.Ordering.TheVariants.{Less, Greater}
-use Rattle.sst_base.specs.Bytes.{IsBytes}
-use Rattle.sst_base.specs.Entry.{Entry}
-use Rattle.sst_base.specs.NumberLaws.{numbers_decide}
+use Rattle.sstable_blocks.specs.Prelude.{IsBytes, Entry}
+use Rattle.sstable_blocks.specs.BlockLaws.{numbers_decide}
 use Rattle.sst_merge.specs.Fronts.{HasOrderOf, key_front}
 use Rattle.sst_merge.specs.Merge.{entry_cmp}
 

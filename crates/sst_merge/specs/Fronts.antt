@@ -3,7 +3,7 @@ use Rattle.std.specs.Prelude.{◌≡◌, ◌≢◌, ◌≤◌, ℕ, List, Option
 use Rattle.std.specs.Cmp.Lexicographic.{slice_cmp}
 use Rattle.std.specs.Ordering.{nat_cmp}
 use Rattle.byteorder.specs.Endian.{big_number}
-use Rattle.sst_base.specs.Bytes.{IsBytes}
+use Rattle.sstable_blocks.specs.Prelude.{IsBytes}
 
 -- the first 16 bytes of a key as a big-endian number, fewer than 16 being filled with 00
 unfoldable pub key_front : List ℕ → ℕ

@@ -2,8 +2,8 @@
 use Rattle.std.proofs.Common.{◌≡◌, true, ap}
 use Rattle.std.specs.Cmp.Lexicographic.{slice_cmp}
 use Rattle.std.specs.Ordering.{nat_cmp, ordering_then, is_lt}
-use Rattle.sst_base.specs.Entry.{Entry}
-use Rattle.sst_base.specs.TestLaws.{lt_is}
+use Rattle.sstable_blocks.specs.Prelude.{Entry}
+use Rattle.sstable_blocks.specs.BlockLaws.{lt_is}
 use Rattle.sst_merge.specs.Merge.{entry_cmp}
 
 -- an entry of a lesser user key sorts before the other

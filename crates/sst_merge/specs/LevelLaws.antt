@@ -8,20 +8,15 @@ use Rattle.std.specs.List.{AllByRecursion}
 use Rattle.std.specs.Ordering.{nat_cmp, is_lt, is_eq, ordering_then}
 use Rattle.std.specs.Cmp.Lexicographic.{slice_cmp}
 use Rattle.std.specs.declared.cmp.Ordering.TheVariants.{Equal, Greater}
-use Rattle.sst_base.specs.Entry.{Entry, plain}
-use Rattle.sst_base.specs.KeyOrderLaws.{slice_cmp-equal}
-use Rattle.sst_block_core.specs.Entries.{entries}
-use Rattle.sst_block_core.specs.Kind.{IsOrdered}
-use Rattle.sst_block_core.specs.Window.{first_match, is_version}
+use Rattle.sstable_blocks.specs.Prelude.{Entry, plain, entries, IsOrdered, first_match, is_version, is_tombstone}
+use Rattle.sstable_blocks.specs.BlockLaws.{slice_cmp-equal, and_parts, eq_is}
 use Rattle.sst_merge.specs.Compact.{IsKeptRead, compacted}
 use Rattle.sst_merge.specs.CompactLaws.{compact-ordered}
 use Rattle.sst_merge.specs.Levels.{IsAbove, HasNone, AreWithin, is_outside}
 use Rattle.sst_merge.specs.ManyLaws.{above_match, still_or_gone, IsStillOrGone}
 use Rattle.sst_merge.specs.Merge.{merged, lesser, least_match, entry_cmp}
 use Rattle.sst_merge.specs.ReadLaws.{merged_match}
-use Rattle.sst_block_core.specs.Tombstones.{is_tombstone}
 use Rattle.sst_merge.specs.Snapshot.{seen}
-use Rattle.sst_base.specs.TestLaws.{and_parts, eq_is}
 use Rattle.sst_merge.specs.ListLaws.{first, first_hit, first_miss}
 
 -- what holds of all holds of the first that passes

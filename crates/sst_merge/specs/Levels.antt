@@ -1,9 +1,7 @@
 -- Lists of versions of which some are newer and some older, as the levels of a store have them.
 use Rattle.std.specs.Prelude.{◌≡◌, ◌≢◌, ℕ, ◌+◌, ◌≤◌, Bool, true, not, is_some, if◌then◌else◌, List, [], ◌∷◌}
 use Rattle.std.specs.List.{AllByRecursion, list_any}
-use Rattle.sst_base.specs.Entry.{Entry}
-use Rattle.sst_block_core.specs.Entries.{entries}
-use Rattle.sst_block_core.specs.Window.{first_match}
+use Rattle.sstable_blocks.specs.Prelude.{Entry, entries, first_match}
 use Rattle.sst_merge.specs.Ranges.{covers}
 
 -- of a key that both lists have, no version of the first is older than one of the second

@@ -34,6 +34,7 @@ pub mod Reversals
 pub mod SizeLaws
 pub mod MappedLaws
 pub mod StayLaws
+pub mod StepLaws
 pub mod Outputs
 pub mod OutputLaws
 pub mod PartLaws

@@ -1,8 +1,7 @@
 -- Laws of lists and tests: what follows in an ordered one, the first item that passes a test, and an item that is left out or kept.
 use Rattle.std.proofs.Common.{◌≡◌, ℕ, suc, nat_lt, inl, inr, sym, arith, Bool, true, false, not, cond, ◌&&◌, List, [], ◌∷◌, ◌++◌, Option, Some, ap, ◌∙◌, filter, slice_get}
 use Rattle.std.proofs.lemmas.Bool.{cases_lt, lt-ltb, le-ltb}
-use Rattle.sst_block_core.specs.ListLaws.{first_filter}
-use Rattle.sst_base.specs.TestLaws.{and_parts, not_true}
+use Rattle.sstable_blocks.specs.BlockLaws.{first_filter, and_parts, not_true}
 
 -- a comparison of the next numbers
 pub lt_suc : (a b : ℕ) → nat_lt (suc a) (suc b) ≡ nat_lt a b

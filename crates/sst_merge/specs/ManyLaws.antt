@@ -1,13 +1,9 @@
 -- Laws of compactions for several snapshots, over entries and over levels.
 use Rattle.std.proofs.Common.{◌≡◌, ℕ, Bool, true, false, cond, List, filter, slice_get, Option, Some, None, sym, ap, ◌∙◌, inl, inr, ◌⊎◌}
 use Rattle.std.specs.Option.{option_map}
-use Rattle.sst_base.specs.Entry.{Entry, plain}
-use Rattle.sst_block_core.specs.Entries.{entries}
-use Rattle.sst_block_core.specs.Kind.{IsOrdered}
-use Rattle.sst_block_core.specs.Window.{first_match, is_version}
+use Rattle.sstable_blocks.specs.Prelude.{Entry, plain, entries, IsOrdered, first_match, is_version, is_tombstone}
 use Rattle.sst_merge.specs.CompactLaws.{compact-first_match}
 use Rattle.sst_merge.specs.Compact.{IsKeptRead, compacted}
-use Rattle.sst_block_core.specs.Tombstones.{is_tombstone}
 use Rattle.sst_merge.specs.Snapshot.{seen}
 
 -- the first match stays, or it was a tombstone at the bottom of its key, and none is left

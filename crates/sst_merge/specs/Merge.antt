@@ -2,9 +2,7 @@
 use Rattle.std.specs.Prelude.{if◌then◌else◌, List, [], ◌∷◌, Option, Some, None}
 use Rattle.std.specs.Ordering.{is_lt}
 use Rattle.std.specs.declared.cmp.Ordering.{Ordering}
-use Rattle.sst_base.specs.Entry.{Entry}
-use Rattle.sst_block_core.specs.Kind.{item_cmp}
-use Rattle.sst_block_core.specs.Entries.{entries}
+use Rattle.sstable_blocks.specs.Prelude.{Entry, item_cmp, entries}
 
 -- the order of entries: by user key rising, then by sequence number falling
 abbrev pub entry_cmp : Entry → Entry → Ordering

@@ -6,9 +6,9 @@ use Rattle.std.specs.List.{AllByRecursion}
 use Rattle.std.specs.Ordering.{is_lt, ordering_reverse}
 use Rattle.std.specs.declared.cmp.Ordering.{Ordering}
 use Rattle.std.specs.declared.cmp.Ordering.TheVariants.{Less, Equal, Greater}
-use Rattle.sst_base.specs.Order.{IsInOrder}
+use Rattle.sstable_blocks.specs.Prelude.{IsInOrder}
+use Rattle.sstable_blocks.specs.BlockLaws.{not_lt}
 use Rattle.sst_merge.specs.Merge.{merge, merge_after}
-use Rattle.sst_base.specs.TestLaws.{not_lt}
 
 module _ {X : Type 0} (cmp : X → X → Ordering) where
   -- merging with nothing

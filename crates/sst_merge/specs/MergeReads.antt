@@ -6,9 +6,9 @@ use Rattle.std.specs.Cmp.{IsTotalOrder}
 use Rattle.std.specs.Ordering.{is_lt, ordering_reverse}
 use Rattle.std.specs.declared.cmp.Ordering.{Ordering}
 use Rattle.std.specs.declared.cmp.Ordering.TheVariants.{Less, Equal, Greater}
-use Rattle.sst_base.specs.Order.{IsInOrder}
+use Rattle.sstable_blocks.specs.Prelude.{IsInOrder}
+use Rattle.sstable_blocks.specs.BlockLaws.{lt_is, not_lt, is_not_lt, some_is}
 use Rattle.sst_merge.specs.Merge.{merge, merge_after, lesser}
-use Rattle.sst_base.specs.TestLaws.{lt_is, not_lt, is_not_lt, some_is}
 use Rattle.sst_merge.specs.ListLaws.{first, first_hit, first_miss}
 use Rattle.sstable_blocks.specs.EndLaws.{tail_in_order}
 

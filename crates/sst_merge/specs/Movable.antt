@@ -4,11 +4,7 @@ use Rattle.std.specs.Cmp.Lexicographic.{slice_cmp}
 use Rattle.std.specs.List.{sum_by}
 use Rattle.std.specs.Ordering.{nat_cmp, is_lt, is_le}
 use Rattle.std.specs.declared.cmp.Ordering.{Ordering}
-use Rattle.sst_base.specs.Entry.{Entry}
-use Rattle.sst_base.specs.Order.{IsInOrder}
-use Rattle.sst_block_core.specs.Entries.{entries}
-use Rattle.sst_block_core.specs.Kind.{IsOrdered}
-use Rattle.sst_block_core.specs.Window.{Window, whole}
+use Rattle.sstable_blocks.specs.Prelude.{Entry, IsInOrder, entries, IsOrdered, Window, whole}
 use Rattle.sst_merge.specs.Cuts.{IsCut, IsItem, comes_first, IsFirstList, IsLastList}
 use Rattle.sst_merge.specs.Merge.{merged}
 use Rattle.sst_merge.specs.Picks.{list_at}

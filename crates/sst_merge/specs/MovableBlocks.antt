@@ -1,11 +1,7 @@
 -- Lists of entries in blocks, whose ends are moved: each end holds a block that was opened, and an entry of it.
 use Rattle.std.specs.Prelude.{◌≡◌, ℕ, suc, ◌+◌, ◌<◌, ◌^◌, Bool, false, List, ◌∷◌, ◌++◌, [], Option, Some, None, length, map, take, drop, slice_get}
 use Rattle.std.specs.List.{AllByRecursion}
-use Rattle.sst_base.specs.Entry.{Entry}
-use Rattle.sst_block_core.specs.DataBlock.{DataRefParts}
-use Rattle.sst_block_core.specs.Entries.{entries}
-use Rattle.sst_block_core.specs.Kind.{IsOrdered}
-use Rattle.sst_block_core.specs.Window.{Window}
+use Rattle.sstable_blocks.specs.Prelude.{Entry, DataRefParts, entries, IsOrdered, Window}
 use Rattle.sstable_blocks.specs.Blocks.{IsNotEmpty, joined}
 use Rattle.sst_merge.specs.Movable.{is_sought, item_before}
 use Rattle.sst_merge.specs.declared.movable_blocks.Open.{Open}

@@ -3,14 +3,8 @@ use Rattle.std.specs.Prelude.{◌≡◌, ◌⊎◌, ℕ, ◌+◌, ◌-◌, ◌&&
 use Rattle.std.specs.Cmp.Lexicographic.{slice_cmp}
 use Rattle.std.specs.Option.{option_map}
 use Rattle.std.specs.Ordering.{is_eq, nat_cmp}
-use Rattle.sst_base.specs.Counted.{found_item}
-use Rattle.sst_base.specs.Entry.{Entry}
-use Rattle.sst_base.specs.declared.error.Error.{Error}
-use Rattle.sst_base.specs.declared.error.Error.TheVariants.{Memory}
-use Rattle.sst_block_core.specs.Checks.{is_in_order}
-use Rattle.sst_block_core.specs.Handles.{Handle}
-use Rattle.sst_block_core.specs.Scan.{Scan}
-use Rattle.sst_block_core.specs.Window.{Window, items_left}
+use Rattle.sstable_blocks.specs.Prelude.{found_item, Entry, is_in_order, Handle, Scan, Window, items_left}
+use Rattle.sstable_blocks.specs.Results.{Error, Memory}
 use Rattle.sstable_blocks.specs.Blocks.{joined}
 use Rattle.sstable_blocks.specs.Opened.{range_of}
 use Rattle.sstable_blocks.specs.RunReading.{Hashes, block_items_at}

@@ -3,9 +3,8 @@ use Rattle.std.specs.Prelude.{◌≡◌, ◌⊎◌, ℕ, ◌+◌, ◌-◌, ◌*�
 use Rattle.std.specs.List.{count_by, sum_by}
 use Rattle.std.specs.Option.{option_map}
 use Rattle.std.specs.declared.cmp.Ordering.{Ordering}
-use Rattle.sst_base.specs.Counted.{found_item}
-use Rattle.sst_base.specs.declared.error.Error.{Error}
-use Rattle.sst_block_core.specs.Window.{Step, Window, item, whole}
+use Rattle.sstable_blocks.specs.Prelude.{found_item, Step, Window, item, whole}
+use Rattle.sstable_blocks.specs.Results.{Error}
 use Rattle.sst_merge.specs.Movable.{IsFresh, item_before, merged_window}
 use Rattle.sst_merge.specs.Sources.{IsAmong, before, errors_of}
 use Rattle.sstable_blocks.specs.Scans.{EndsBy}

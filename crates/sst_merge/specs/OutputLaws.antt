@@ -4,7 +4,7 @@ use Rattle.std.proofs.lemmas.Bool.{cases_lt}
 use Rattle.std.proofs.lemmas.List.{append_assoc, length_push, take-append-le, drop-append-le, take_all, drop_all}
 use Rattle.std.specs.List.{AllZip}
 use Rattle.std.specs.Option.{option_map, IfSome}
-use Rattle.sst_base.specs.Entry.{Entry}
+use Rattle.sstable_blocks.specs.Prelude.{Entry}
 use Rattle.sstable_blocks.specs.Blocks.{joined}
 use Rattle.sstable_blocks.specs.Run.{Form}
 use Rattle.sstable_blocks.specs.declared.run.RunHandles.{RunHandles}

@@ -3,16 +3,12 @@ use Rattle.std.proofs.Common.{◌≡◌, ◌≢◌, List, [], ◌∷◌, ◌++�
 use Rattle.std.specs.Cmp.{IsTotalOrder}
 use Rattle.std.specs.declared.cmp.Ordering.{Ordering}
 use Rattle.std.specs.declared.cmp.Ordering.TheVariants.{Less}
-use Rattle.sst_base.specs.Entry.{Entry}
-use Rattle.sst_base.specs.KeyOrderLaws.{versions_cmp_total}
-use Rattle.sst_base.specs.Order.{IsInOrder}
-use Rattle.sst_block_core.specs.Entries.{entries}
-use Rattle.sst_block_core.specs.Kind.{IsOrdered}
+use Rattle.sstable_blocks.specs.Prelude.{Entry, IsInOrder, entries, IsOrdered}
+use Rattle.sstable_blocks.specs.BlockLaws.{versions_cmp_total, is_not_lt}
 use Rattle.sstable_blocks.specs.Blocks.{joined}
 use Rattle.sst_merge.specs.Merge.{merge, merged, entry_cmp}
 use Rattle.sst_merge.specs.MergeLaws.{merge-first}
 use Rattle.sst_merge.specs.MergeReads.{ge_trans}
-use Rattle.sst_base.specs.TestLaws.{is_not_lt}
 use Rattle.sstable_blocks.specs.EndLaws.{tail_in_order, back_in_order}
 
 module _ {X : Type 0} (cmp : X → X → Ordering) (order : IsTotalOrder cmp) where

@@ -8,10 +8,8 @@ use Rattle.std.specs.List.{AllByRecursion}
 use Rattle.std.specs.Ordering.{nat_cmp, is_eq, ordering_then, ordering_reverse}
 use Rattle.std.specs.declared.cmp.Ordering.{Ordering}
 use Rattle.std.specs.declared.cmp.Ordering.TheVariants.{Less, Equal, Greater}
-use Rattle.sst_base.specs.Entry.{Entry}
-use Rattle.sst_base.specs.Order.{IsInOrder}
-use Rattle.sst_block_core.specs.VersionLaws.{keys_equal}
-use Rattle.sst_block_core.specs.Tombstones.{is_tombstone}
+use Rattle.sstable_blocks.specs.Prelude.{Entry, IsInOrder, is_tombstone}
+use Rattle.sstable_blocks.specs.BlockLaws.{keys_equal}
 use Rattle.sst_merge.specs.Snapshot.{visible_from, snapshot, unless_deleted, has_last_key, has_version, is_shown, shown, kept_after}
 use Rattle.sst_merge.specs.SnapshotReads.{order, skip}
 use Rattle.sst_merge.specs.ListLaws.{left_out}

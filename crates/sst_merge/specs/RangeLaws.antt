@@ -8,16 +8,10 @@ use Rattle.std.specs.List.{AllByRecursion}
 use Rattle.std.specs.Option.{option_map, IfSome}
 use Rattle.std.specs.Ordering.{nat_cmp, is_eq}
 use Rattle.std.specs.declared.cmp.Ordering.{Ordering}
-use Rattle.sst_base.specs.Entry.{Entry, plain}
-use Rattle.sst_base.specs.KeyOrderLaws.{versions_cmp_total}
-use Rattle.sst_base.specs.Order.{IsInOrder}
-use Rattle.sst_block_core.specs.Entries.{entries}
-use Rattle.sst_block_core.specs.Kind.{IsOrdered}
-use Rattle.sst_block_core.specs.VersionLaws.{keys_equal}
-use Rattle.sst_block_core.specs.Window.{first_match, is_version}
+use Rattle.sstable_blocks.specs.Prelude.{Entry, plain, IsInOrder, entries, IsOrdered, first_match, is_version}
+use Rattle.sstable_blocks.specs.BlockLaws.{versions_cmp_total, keys_equal, and_parts}
 use Rattle.sst_merge.specs.MergeReads.{ge_trans}
 use Rattle.sst_merge.specs.Ranges.{covers, ranged}
-use Rattle.sst_base.specs.TestLaws.{and_parts}
 use Rattle.sstable_blocks.specs.EndLaws.{tail_in_order}
 
 module _ {X : Type 0} (test : X → Bool) where

@@ -2,7 +2,7 @@
 use Rattle.std.specs.Prelude.{ℕ, Bool, ◌&&◌, List, filter}
 use Rattle.std.specs.Ordering.{nat_cmp, is_le, is_ge}
 use Rattle.std.specs.Cmp.Lexicographic.{slice_cmp}
-use Rattle.sst_base.specs.Entry.{Entry}
+use Rattle.sstable_blocks.specs.Prelude.{Entry}
 
 -- is a key between a first and a last one, both included?
 abbrev pub covers : List ℕ → List ℕ → List ℕ → Bool

@@ -4,16 +4,12 @@ use Rattle.std.specs.Option.{option_map}
 use Rattle.std.specs.Ordering.{is_lt, is_eq, nat_cmp}
 use Rattle.std.specs.Cmp.Lexicographic.{slice_cmp}
 use Rattle.std.specs.List.{AllByRecursion}
-use Rattle.sst_base.specs.Entry.{Entry, plain}
-use Rattle.sst_base.specs.KeyOrderLaws.{versions_cmp_total}
-use Rattle.sst_block_core.specs.Entries.{entries}
-use Rattle.sst_block_core.specs.Kind.{IsOrdered}
-use Rattle.sst_block_core.specs.Window.{first_match, is_version}
+use Rattle.sstable_blocks.specs.Prelude.{Entry, plain, entries, IsOrdered, first_match, is_version, is_tombstone}
+use Rattle.sstable_blocks.specs.BlockLaws.{versions_cmp_total}
 use Rattle.sst_merge.specs.Merge.{merge, merged, lesser, least_match, entry_cmp}
 use Rattle.sst_merge.specs.MergeLaws.{merge-ordered}
 use Rattle.sst_merge.specs.MergeReads.{merge-first_match}
 use Rattle.sst_merge.specs.PlainLaws.{snapshot-shown}
-use Rattle.sst_block_core.specs.Tombstones.{is_tombstone}
 use Rattle.sst_merge.specs.Snapshot.{seen, shown, snapshot}
 use Rattle.sst_merge.specs.SnapshotReads.{unless_hidden, snapshot-first_match}
 

@@ -7,10 +7,7 @@ use Rattle.std.specs.List.{AllByRecursion}
 use Rattle.std.proofs.Math.ListN.{set}
 use Rattle.std.proofs.Math.Seq.{map-set_same}
 use Rattle.std.proofs.lemmas.List.{drop_all, drop_more, drop-drop, drop-set-lt, get_or-map, length-map}
-use Rattle.sst_base.specs.Entry.{Entry}
-use Rattle.sst_block_core.specs.Entries.{entries}
-use Rattle.sst_block_core.specs.Kind.{IsOrdered}
-use Rattle.sst_block_core.specs.Window.{first_match}
+use Rattle.sstable_blocks.specs.Prelude.{Entry, entries, IsOrdered, first_match}
 use Rattle.sst_merge.specs.Counts.{OneFails}
 use Rattle.sst_merge.specs.LevelLaws.{level_match}
 use Rattle.sst_merge.specs.Levels.{AreLevels, IsAbove, asked}

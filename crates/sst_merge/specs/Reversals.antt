@@ -6,12 +6,11 @@ use Rattle.std.specs.List.{AllByRecursion}
 use Rattle.std.specs.Ordering.{flip_args, is_lt}
 use Rattle.std.specs.declared.cmp.Ordering.{Ordering}
 use Rattle.std.specs.declared.cmp.Ordering.TheVariants.{Less}
+use Rattle.sstable_blocks.specs.Prelude.{IsInOrder}
+use Rattle.sstable_blocks.specs.BlockLaws.{lt_is, not_lt, is_not_lt, push_reverse, all_reverse}
 use Rattle.sst_merge.specs.Merge.{merge, merged}
 use Rattle.sst_merge.specs.MergeReads.{ge_trans}
 use Rattle.sst_merge.specs.MergeLaws.{merge-nil, merge-first, merge-second, merge-ordered}
-use Rattle.sst_base.specs.Order.{IsInOrder}
-use Rattle.sst_base.specs.TestLaws.{lt_is, not_lt, is_not_lt}
-use Rattle.sst_block_core.specs.ListLaws.{push_reverse, all_reverse}
 use Rattle.sstable_blocks.specs.EndLaws.{tail_in_order}
 
 module _ {X : Type 0} (cmp : X → X → Ordering) where

@@ -6,12 +6,8 @@ use Rattle.std.proofs.lemmas.List.Sums.{sum_by-append}
 use Rattle.std.proofs.lemmas.Option.{slice_get-get_or}
 use Rattle.std.specs.List.{AllByRecursion}
 use Rattle.std.specs.Option.{option_map, IfSome}
-use Rattle.sst_base.specs.Entry.{Entry}
-use Rattle.sst_base.specs.Varint.{varint}
-use Rattle.sst_base.specs.VarintLaws.{varint_within_more, varint_within_small}
-use Rattle.sst_block_core.specs.Body.{body, item_form}
-use Rattle.sst_block_core.specs.Entries.{entries}
-use Rattle.sst_block_core.specs.OffsetLaws.{body-append}
+use Rattle.sstable_blocks.specs.Prelude.{Entry, varint, body, item_form, entries}
+use Rattle.sstable_blocks.specs.BlockLaws.{varint_within_more, varint_within_small, body-append}
 use Rattle.sstable_blocks.specs.Blocks.{joined}
 use Rattle.sst_merge.specs.Sources.{IsTaken}
 use Rattle.sst_merge.specs.TableLaws.{last_of}

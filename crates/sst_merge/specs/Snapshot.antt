@@ -3,18 +3,21 @@ use Rattle.std.specs.Prelude.{ℕ, nat_lt, Bool, false, not, ◌&&◌, if◌then
 use Rattle.std.specs.Ordering.{nat_cmp, is_eq}
 use Rattle.std.specs.Cmp.Lexicographic.{slice_cmp}
 use Rattle.std.specs.List.{list_any}
-use Rattle.sst_base.specs.Entry.{Entry}
-use Rattle.sst_block_core.specs.Tombstones.{is_tombstone}
+use Rattle.sstable_blocks.specs.Prelude.{Entry, is_tombstone}
 
 -- what a reader sees of a version: none of a tombstone
 abbrev pub seen : Option Entry → Option Entry
 seen None = None
 seen (Some e) = if is_tombstone e.key.value_type then None else Some e
 
--- the items that pass a test, which sees an item and those before it, the nearest first
+-- the items that pass a test, which sees those before an item, the nearest first, the item, and those behind it
+abbrev pub kept_between : {X : Type 0} → (List X → X → List X → Bool) → List X → List X → List X
+kept_between test before [] = []
+kept_between test before (x ∷ xs) = if test before x xs then x ∷ kept_between test (x ∷ before) xs else kept_between test (x ∷ before) xs
+
+-- the items that pass a test, which sees those before an item, and the item
 abbrev pub kept_after : {X : Type 0} → (List X → X → Bool) → List X → List X → List X
-kept_after test before [] = []
-kept_after test before (x ∷ xs) = if test before x then x ∷ kept_after test (x ∷ before) xs else kept_after test (x ∷ before) xs
+kept_after test = kept_between (λ before x behind. test before x)
 
 module _ {X : Type 0} (entry : X → Entry) where
   -- does a version have the last key?

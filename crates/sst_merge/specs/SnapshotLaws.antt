@@ -1,6 +1,6 @@
 -- Laws of snapshots.
 use Rattle.std.proofs.Common.{◌≡◌, ℕ, true, false, List, ◌∷◌, Option, Some, refl}
-use Rattle.sst_base.specs.Entry.{Entry}
+use Rattle.sstable_blocks.specs.Prelude.{Entry}
 use Rattle.sst_merge.specs.Snapshot.{visible_from, is_newest, unless_deleted}
 
 module _ {X : Type 0} (entry : X → Entry) where

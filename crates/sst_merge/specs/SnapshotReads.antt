@@ -7,11 +7,8 @@ use Rattle.std.specs.Ordering.{nat_cmp, is_eq, ordering_then, ordering_reverse}
 use Rattle.std.specs.declared.cmp.Ordering.{Ordering}
 use Rattle.std.specs.declared.cmp.Ordering.TheVariants.{Less, Equal, Greater}
 use Rattle.std.proofs.lemmas.Cmp.{nat_list_cmp_total}
-use Rattle.sst_base.specs.Entry.{Entry}
-use Rattle.sst_base.specs.Order.{versions_cmp, IsInOrder}
-use Rattle.sst_base.specs.KeyOrderLaws.{slice_cmp-equal, versions_cmp_total}
-use Rattle.sst_block_core.specs.VersionLaws.{keys_equal}
-use Rattle.sst_block_core.specs.Tombstones.{is_tombstone}
+use Rattle.sstable_blocks.specs.Prelude.{Entry, versions_cmp, IsInOrder, is_tombstone}
+use Rattle.sstable_blocks.specs.BlockLaws.{slice_cmp-equal, versions_cmp_total, keys_equal}
 use Rattle.sst_merge.specs.Snapshot.{visible_from, snapshot, is_newest, has_last_key}
 use Rattle.sst_merge.specs.SnapshotLaws.{visible-passed, visible-newest}
 use Rattle.sst_merge.specs.MergeReads.{ge_trans}

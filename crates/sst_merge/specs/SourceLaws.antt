@@ -7,13 +7,13 @@ use Rattle.std.proofs.lemmas.List.{set-get_or, map-set, get_or-map, length-map}
 use Rattle.std.proofs.lemmas.List.Sums.{sum_by-set}
 use Rattle.std.specs.List.{sum_by}
 use Rattle.std.specs.declared.cmp.Ordering.{Ordering}
-use Rattle.sst_base.specs.declared.error.Error.{Error}
+use Rattle.sstable_blocks.specs.Results.{Error}
+use Rattle.sstable_blocks.specs.BlockLaws.{some_is}
+use Rattle.sstable_blocks.specs.Prelude.{found_item}
 use Rattle.sstable_blocks.specs.Scans.{EndsBy}
 use Rattle.sst_merge.specs.Merge.{merged}
 use Rattle.sst_merge.specs.Picks.{IsPick, list_at, least, least_none, least_some}
 use Rattle.sst_merge.specs.Sources.{Left, TakesFirst, PassesFirst, before, left_held, IsHeld, all_known, lists_left, all_left}
-use Rattle.sst_base.specs.TestLaws.{some_is}
-use Rattle.sst_base.specs.Counted.{found_item}
 
 same_list : {X : Type 0} (o : Option (List X)) → option_map (before None) o ≡ o
 same_list None = refl

@@ -2,10 +2,9 @@
 use Rattle.std.specs.Prelude.{◌≡◌, ◌⊎◌, ℕ, ◌+◌, ◌<◌, ◌≤◌, List, [], ◌∷◌, ◌++◌, map, Option, Some, None, IfSome, Bool, true, false}
 use Rattle.std.specs.Option.{option_map}
 use Rattle.std.specs.List.{sum_by}
-use Rattle.sst_base.specs.declared.error.Error.{Error}
-use Rattle.sst_base.specs.declared.error.Error.TheVariants.{Memory}
+use Rattle.sstable_blocks.specs.Results.{Error, Memory}
+use Rattle.sstable_blocks.specs.Prelude.{found_item}
 use Rattle.sstable_blocks.specs.Blocks.{joined}
-use Rattle.sst_base.specs.Counted.{found_item}
 
 -- What is left of a source: the list of its items, where the bytes are known that they are read from, and else nothing
 -- is said of it; at most how many they are; the errors that reading them may give, where these bytes are known; and the
@@ -64,6 +63,19 @@ left_as f ended s = record { list = option_map f s.list; most = s.most; errors =
 -- what is left where an item is held before it, and this error ended it, if one did
 abbrev pub left_held : {X : Type 0} → Option X → Option Error → Left X → Left X
 left_held held ended s = record { list = option_map (before held) s.list; most = found_item held + s.most; errors = step_errors s; ended = ended }
+
+-- a list with an item before it that may be held
+abbrev pub list_held : {X : Type 0} → Option X → Option (List X) → Option (List X)
+list_held None s = s
+list_held (Some x) s = option_map (λ xs. x ∷ xs) s
+
+abbrev pub most_held : {X : Type 0} → Option X → ℕ → ℕ
+most_held None most = most
+most_held (Some x) most = most + 1
+
+-- what is left where an item may have been taken ahead
+abbrev pub with_held : {X : Type 0} → Option X → Left X → Left X
+with_held held s = record { list = list_held held s.list; most = most_held held s.most; errors = s.errors; ended = s.ended }
 
 -- where none is held, none is left
 abbrev pub IsHeld : {X : Type 0} → Option X → Option (List X) → Type 0

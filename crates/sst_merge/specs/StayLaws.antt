@@ -1,5 +1,5 @@
--- What a compaction of an ordered list for several snapshots leaves of it: the versions that pass a test of a version and of
--- those before it.
+-- What a compaction of an ordered list for several snapshots leaves of it: the versions that pass a test of a version, of
+-- those before it and of those behind it.
 use Rattle.std.proofs.Common.{◌≡◌, ◌≢◌, ℕ, ◌≤◌, Bool, true, false, not, cond, List, [], ◌∷◌, Option, Some, None, refl, sym, ap, ◌∙◌, inl, inr, arith}
 use Rattle.std.proofs.lemmas.Bool.{cases_Bool}
 use Rattle.std.proofs.lemmas.Bool.Decides.{nat_tests}
@@ -10,13 +10,12 @@ use Rattle.std.specs.List.{AllByRecursion}
 use Rattle.std.specs.Ordering.{nat_cmp, is_eq}
 use Rattle.std.specs.declared.cmp.Ordering.{Ordering}
 use Rattle.std.specs.declared.cmp.Ordering.TheVariants.{Less}
-use Rattle.sst_base.specs.Entry.{Entry}
-use Rattle.sst_base.specs.Order.{IsInOrder}
-use Rattle.sst_merge.specs.CompactLaws.{kept, repeated, newest, older}
-use Rattle.sst_merge.specs.Compact.{is_seen, is_parted, is_hidden, is_dropped, compact_from, compacted, has_newer, stays, staying}
+use Rattle.sstable_blocks.specs.Prelude.{Entry, IsInOrder, is_tombstone}
+use Rattle.sst_merge.specs.CompactLaws.{kept, repeated, newest, older, seen_lower, under_passed, under_first, not_hidden_parted}
+use Rattle.sst_merge.specs.Compact.{is_seen, is_parted, is_hidden, is_left_under, compact_from, compacted, has_newer, has_older, stays, staying}
 use Rattle.sst_merge.specs.PlainLaws.{Behind, behind_first, behind_rest, key_after, last_is, other, or_false}
-use Rattle.sst_merge.specs.Snapshot.{has_last_key, kept_after}
-use Rattle.sst_merge.specs.SnapshotReads.{order, skip}
+use Rattle.sst_merge.specs.Snapshot.{has_last_key, kept_between}
+use Rattle.sst_merge.specs.SnapshotReads.{order, skip, both_false, first_false}
 use Rattle.sst_merge.specs.ListLaws.{left_out, and_not_parts}
 use Rattle.sstable_blocks.specs.EndLaws.{tail_in_order}
 
@@ -73,7 +72,7 @@ module _ {X : Type 0} (entry : X → Entry) (ss : List ℕ) (bottom : List ℕ �
   at x = Some (key_of x, num x)
 
   abbrev to : List X → List X → List X
-  to = kept_after (stays entry ss bottom)
+  to = kept_between (stays entry ss bottom)
 
   abbrev last_key : Option (List ℕ × ℕ) → Option (List ℕ)
   last_key last = option_map (λ (l : List ℕ × ℕ). l.0) last
@@ -136,12 +135,44 @@ module _ {X : Type 0} (entry : X → Entry) (ss : List ℕ) (bottom : List ℕ �
   behind_more : (last : Option (List ℕ × ℕ)) (x : X) (xs : List X) → Behind entry 0 (last_key last) (x ∷ xs) → Behind entry 0 (last_key last) xs
   behind_more last x xs h = behind_rest entry 0 (last_key last) x xs h
 
+  -- behind a version of another key none has the last key
+  none_older : (x y : X) (ys rest : List X) → Behind entry 0 (Some (key_of x)) (y ∷ ys) → has_last_key entry (Some (key_of x)) y ≡ false → Behind entry 0 (Some (key_of y)) rest → has_older entry ss rest x ≡ false
+  none_older x y ys [] h different k = refl
+  none_older x y ys (e ∷ rest) h different k =
+      ap (λ b. b || has_older entry ss rest x) (first_false (has_last_key entry (Some (key_of x)) e) (is_parted ss (num e) (num x)) (other entry 0 (Some (key_of x)) y e ys h different k.0))
+      ∙ none_older x y ys rest h different k.1
+
+  -- what is left under a version is what is behind it
+  under_same : (x : X) (xs : List X) → is_seen ss (num x) ≡ true → IsInOrder cmp (x ∷ xs) → is_left_under entry ss (key_of x, num x) xs ≡ has_older entry ss xs x
+  under_same x [] seen up = refl
+  under_same x (y ∷ ys) seen up =
+      let has = has_last_key entry (Some (key_of x)) y in
+      let parted = is_parted ss (num y) (num x) in
+      let last : List ℕ × ℕ = (key_of x, num x) in
+      elim (cases_Bool (is_hidden entry ss (at x) y)) [
+        | inl again ↦ (
+            let a = and_not_parts has parted again in
+            let below : is_seen ss (num y) ≡ true = seen_lower ss (num y) (num x) seen (older entry ss bottom [] 0 x y (last_is entry 0 (key_of x) y a.0) up.0) in
+            under_passed entry ss last y ys below again
+            ∙ under_same x ys seen (skip entry [] 0 x y ys up)
+            ∙ sym (ap (λ b. b || has_older entry ss ys x) (both_false has parted a.1)))
+        | inr fresh ↦ under_first entry ss last y ys fresh ∙ elim (cases_Bool has) [
+          | inl same ↦ (
+              let is = not_hidden_parted has parted same fresh in
+              is ∙ sym (ap (λ b. b || has_older entry ss ys x) is))
+          | inr different ↦ (
+              let is = first_false has parted different in
+              is ∙ sym (ap (λ b. b || has_older entry ss ys x) is ∙ none_older x y ys ys (behind_first entry 0 x (y ∷ ys) up) different (behind_first entry 0 y ys up.1)))
+        ]
+      ]
+
   c_same : (last : Option (List ℕ × ℕ)) (before xs : List X) → IsInOrder cmp xs → Behind entry 0 (last_key last) xs → Agree last before xs → go last xs ≡ to before xs
   c_same last before [] up h all = refl
   c_same last before (x ∷ xs) up h all =
       let tail = tail_in_order (order entry [] 0) x xs up in
       let rest = λ (b t v : Bool). cond (not b || (not v && not t)) (x ∷ to (x ∷ before) xs) (to (x ∷ before) xs) in
-      let gone = is_dropped entry ss bottom x in
+      let at_end = λ (t : Bool). is_tombstone (entry x).key.value_type && (bottom (key_of x) && not t) in
+      let gone = at_end (has_older entry ss xs x) in
       elim (cases_Bool (is_seen ss (num x))) [
         | inr above ↦ kept entry ss bottom last x xs above
             ∙ ap (λ zs. x ∷ zs) (c_same last (x ∷ before) xs tail (behind_more last x xs h) (agree_above last x before xs above all.1))
@@ -151,6 +182,7 @@ module _ {X : Type 0} (entry : X → Entry) (ss : List ℕ) (bottom : List ℕ �
               ∙ c_same last (x ∷ before) xs tail (behind_more last x xs h) (agree_again last x before xs again all.1)
               ∙ sym (ap (rest true gone) (sym (all.0 below) ∙ again))
           | inr fresh ↦ newest entry ss bottom last x xs below fresh
+              ∙ ap (λ t. cond (at_end t) (go (at x) xs) (x ∷ go (at x) xs)) (under_same x xs below up)
               ∙ left_out gone x (go (at x) xs) (to (x ∷ before) xs)
               (c_same (at x) (x ∷ before) xs tail (behind_first entry 0 x xs up) (agree_fresh last x before xs xs fresh h (follow x xs up) all.1))
               ∙ sym (ap (rest true gone) (sym (all.0 below) ∙ fresh))

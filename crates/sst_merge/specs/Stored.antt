@@ -2,13 +2,9 @@
 use Rattle.std.specs.Prelude.{◌≡◌, ℕ, ◌^◌, nat_lt, Bool, ◌&&◌, true, if◌then◌else◌, List, [], ◌∷◌, ◌++◌, Option, Some, None, Result, Ok, Err}
 use Rattle.std.specs.Option.{option_map}
 use Rattle.std.specs.declared.ops.Bound.TheVariants.{Unbounded}
-use Rattle.sst_base.specs.Entry.{Entry}
-use Rattle.sst_base.specs.declared.error.Error.{Error}
+use Rattle.sstable_blocks.specs.Prelude.{Entry, HandleParts, is_in_order, Handle}
+use Rattle.sstable_blocks.specs.Results.{Error, BadHandle, Io, Truncated}
 use Rattle.sst_merge.specs.Merge.{entry_cmp}
-use Rattle.sst_base.specs.declared.error.Error.TheVariants.{BadHandle, Io, Truncated}
-use Rattle.sst_base.specs.BlockHandle.{HandleParts}
-use Rattle.sst_block_core.specs.Checks.{is_in_order}
-use Rattle.sst_block_core.specs.Handles.{Handle}
 use Rattle.sstable_blocks.specs.RunChecks.{check_run}
 use Rattle.sstable_blocks.specs.RunReading.{Hashes}
 use Rattle.sstable_blocks.specs.Scans.{Read, KeyRange, blocks_read, handles_within}

@@ -2,8 +2,8 @@
 use Rattle.std.proofs.Common.{◌≡◌, ℕ, List, [], ◌∷◌, map, Option, Some, None, Result, Ok, Err, refl, sym, ap, subst, ◌∙◌, arith}
 use Rattle.std.specs.Option.{option_map, IfSome}
 use Rattle.std.specs.Result.{IfOk}
-use Rattle.sst_base.specs.Entry.{Entry}
-use Rattle.sst_base.specs.declared.error.Error.{Error}
+use Rattle.sstable_blocks.specs.Prelude.{Entry}
+use Rattle.sstable_blocks.specs.Results.{Error}
 use Rattle.sstable_blocks.specs.Ends.{IsFewer}
 use Rattle.sstable_blocks.specs.Scans.{Read, GivesFirst, EndsBy}
 use Rattle.sst_merge.specs.Sources.{TakesFirst}

@@ -2,7 +2,7 @@
 use Rattle.std.proofs.Common.{◌≡◌, suc, ◌-◌, ◌≤◌, false, List, [], ◌∷◌, ◌++◌, length, slice_get, Option, Some, None, refl, sym, ap, subst, ◌∙◌, arith, length-append}
 use Rattle.std.proofs.lemmas.List.{append_assoc, length_push}
 use Rattle.std.specs.Option.{option_map, is_some, IfSome}
-use Rattle.sst_base.specs.Entry.{Entry}
+use Rattle.sstable_blocks.specs.Prelude.{Entry}
 use Rattle.sstable_blocks.specs.Blocks.{joined}
 use Rattle.sst_merge.specs.Sources.{IsTaken}
 use Rattle.sst_merge.specs.Tables.{IsApart}

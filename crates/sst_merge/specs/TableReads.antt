@@ -6,16 +6,9 @@ use Rattle.std.specs.Option.{option_map, IfSome}
 use Rattle.std.specs.Ordering.{is_lt}
 use Rattle.std.specs.List.{AllByRecursion}
 use Rattle.std.specs.Prelude.{nat_lt, ◌&&◌}
-use Rattle.sst_base.specs.Bytes.{IsBytes}
-use Rattle.sst_base.specs.Entry.{Entry, plain}
-use Rattle.sst_base.specs.declared.error.Error.{Error}
-use Rattle.sst_base.specs.declared.error.Error.TheVariants.{BadHandle}
-use Rattle.sst_block_core.specs.Checks.{is_in_order}
-use Rattle.sst_block_core.specs.Entries.{entries}
-use Rattle.sst_block_core.specs.Kind.{IsOrdered}
-use Rattle.sst_block_core.specs.Window.{first_match}
-use Rattle.sst_base.specs.BlockHandle.{HandleParts}
-use Rattle.sst_block_core.specs.Handles.{Handle}
+use Rattle.sstable_blocks.specs.Prelude.{IsBytes, Entry, plain, is_in_order, entries, IsOrdered, first_match, HandleParts, Handle}
+use Rattle.sstable_blocks.specs.Results.{Error, BadHandle}
+use Rattle.sstable_blocks.specs.BlockLaws.{and_parts, is_not_lt, not_true, not_lt}
 use Rattle.sstable_blocks.specs.Blocks.{joined}
 use Rattle.sstable_blocks.specs.RunChecks.{check_run}
 use Rattle.sstable_blocks.specs.RunReading.{Hashes, handles_at}
@@ -27,7 +20,6 @@ use Rattle.sst_merge.specs.Merge.{entry_cmp}
 use Rattle.sst_merge.specs.RangeLaws.{filter_all}
 use Rattle.sst_merge.specs.Stored.{all_keys, are_bytes, check_of, checked_list, filter_fits, known_reads, table_list}
 use Rattle.sst_merge.specs.StoredLaws.{known_all}
-use Rattle.sst_base.specs.TestLaws.{and_parts, is_not_lt, not_true, not_lt}
 
 -- entries are in order exactly where they pass the test of their order
 pub order_passes : (xs : List Entry) → IsOrdered entries xs → is_in_order entry_cmp xs ≡ true

@@ -5,11 +5,8 @@ use Rattle.std.specs.List.{AllByRecursion}
 use Rattle.std.specs.Option.{option_map}
 use Rattle.std.proofs.lemmas.List.{map-append, length-map}
 use Rattle.std.specs.declared.cmp.Ordering.{Ordering}
-use Rattle.sst_base.specs.Entry.{Entry}
-use Rattle.sst_base.specs.Order.{IsInOrder}
-use Rattle.sst_base.specs.declared.error.Error.{Error}
-use Rattle.sst_block_core.specs.Entries.{entries}
-use Rattle.sst_block_core.specs.Kind.{IsOrdered, item_cmp}
+use Rattle.sstable_blocks.specs.Prelude.{Entry, IsInOrder, entries, IsOrdered, item_cmp}
+use Rattle.sstable_blocks.specs.Results.{Error}
 use Rattle.sstable_blocks.specs.Blocks.{joined}
 use Rattle.sstable_blocks.specs.Run.{Form}
 use Rattle.sstable_blocks.specs.RunLaws.{fits_one}

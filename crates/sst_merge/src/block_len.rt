@@ -1,13 +1,11 @@
 //! How many bytes entries take in a data block.
 ghost use Rattle.std.specs.Prelude.{◌≡◌, ◌+◌, ◌<◌, ◌≤◌, ◌^◌, ◌++◌, ◌∷◌, [], length, map};
-ghost use Rattle.sst_base.specs.Varint.{varint};
-ghost use Rattle.sst_block_core.specs.Body.{item_form, truncated_against};
-ghost use Rattle.sst_block_core.specs.Entries.{entries, full, truncated, value_part};
+ghost use Rattle.sstable_blocks.specs.Prelude.{varint, item_form, truncated_against, entries, full};
+ghost use Rattle.sstable_blocks.specs.Prelude.{truncated, value_part};
 
-use sst_base::ValueType;
-use sst_base::coding::MAX_VARINT_LEN;
-use sst_base::in_place::put_varint;
-use sst_block_core::{AsEntry, EntryView};
+use sstable_blocks::coding::MAX_VARINT_LEN;
+use sstable_blocks::in_place::put_varint;
+use sstable_blocks::{AsEntry, EntryView, ValueType};
 
 // How many bytes a number takes as a varint.
 #[inline(always)]

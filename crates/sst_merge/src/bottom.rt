@@ -2,7 +2,7 @@
 ghost use Rattle.std.specs.Prelude.{◌≡◌, ℕ, Bool, List};
 
 use crate::ranged::is_between;
-use sst_base::UserKey;
+use sstable_blocks::UserKey;
 
 /// Says which user keys are at the bottom: in no list that is read together with the compacted one is
 /// an older version of the key.

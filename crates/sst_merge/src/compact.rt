@@ -1,13 +1,14 @@
 //! Compaction of ordered versions.
-ghost use Rattle.std.specs.Prelude.{◌≡◌, IfErr, IfOk, OnOk, None};
+ghost use Rattle.std.specs.Prelude.{◌≡◌, ◌&&◌, false, not, List, IfErr, IfOk, OnOk, Some, None};
 ghost use Rattle.sst_merge.specs.Compact.{compact_from, compacted};
 ghost use Rattle.sst_merge.specs.Compact.{is_below_all, is_hidden, is_parted, is_seen};
-ghost use Rattle.sst_merge.specs.Sources.{MayGive, MeetsNoMore, TakesFirst, left_as};
+ghost use Rattle.sst_merge.specs.Compact.{PassesHidden, is_left_under, is_parted_from};
+ghost use Rattle.sst_merge.specs.Sources.{MayGive, MeetsNoMore, TakesFirst, left_as, with_held};
+ghost use Rattle.sstable_blocks.specs.Prelude.{is_tombstone};
 
 use crate::bottom::Bottom;
 use crate::source::{Source, keep_error};
-use sst_base::{Error, Result, SeqNo, UserKey};
-use sst_block_core::AsEntry;
+use sstable_blocks::{AsEntry, Error, Result, SeqNo, UserKey};
 use std::alloc::Global;
 use std::marker::{Model, PhantomData};
 
@@ -15,13 +16,15 @@ use std::marker::{Model, PhantomData};
 /// can see. A snapshot sees the versions strictly below its number. Of the versions that some snapshot
 /// sees one stays only if a snapshot sees it that sees no newer one of its key; so of each key one for
 /// each gap between two neighbouring snapshots. Of a key at the bottom, of which no older version is
-/// elsewhere, a tombstone goes too that every snapshot sees. The user key of each version that stays for
-/// a snapshot is copied, which takes memory above 40 bytes. An error ends the compaction: each later
-/// step returns it again. Clauses see the versions left, where those of the source are known, and the
-/// error that ended the compaction, if one did.
+/// elsewhere, a tombstone goes too, unless a snapshot that does not see it sees an older version of
+/// the key. Where not every snapshot sees the tombstone, the next version that it does not hide is
+/// taken ahead, and held for the next step. The user key of each version that stays for a snapshot is
+/// copied, which takes memory above 40 bytes. An error ends the compaction, also one of a look ahead:
+/// each later step returns it again. Clauses see the versions left, where those of the source are
+/// known, and the error that ended the compaction, if one did.
 #[derive(Drop)]
 pub struct Compact<T: AsEntry, I: Source<T>, B: Bottom> {
-    source: I,
+    source: Ahead<T, I>,
     snapshots: Vec<SeqNo>,
     bottom: B,
     // The user key and the number of the last version that some snapshot sees and none newer hides.
@@ -32,13 +35,13 @@ pub struct Compact<T: AsEntry, I: Source<T>, B: Bottom> {
 
 impl<T: AsEntry, I: Source<T>, B: Bottom> Model for Compact<T, I, B> {
     ghost use Rattle.sst_merge.specs.Compact.{compact_from};
-    ghost use Rattle.sst_merge.specs.Sources.{Left, left_as};
+    ghost use Rattle.sst_merge.specs.Sources.{Left, left_as, with_held};
 
     ghost Value = { Left T };
 
     ghost view = { λ c. left_as
         (compact_from T.entry c.snapshots.items (B.at_bottom c.bottom) c.last) c.ended
-        (I.left c.source) };
+        (with_held c.source.held (I.left c.source.source)) };
 }
 
 impl<T: AsEntry, I: Source<T>, B: Bottom> Compact<T, I, B> {
@@ -50,7 +53,7 @@ impl<T: AsEntry, I: Source<T>, B: Bottom> Compact<T, I, B> {
             (compacted T.entry snapshots.items (B.at_bottom bottom)) None (I.left source) }
     {
         Compact {
-            source,
+            source: Ahead { source, held: None },
             snapshots,
             bottom,
             last: None,
@@ -84,49 +87,153 @@ fn is_below_all(snapshots: &[SeqNo], seqno: SeqNo) -> bool
 }
 
 // Whether every snapshot that sees a version sees the last one, which is newer and has its key.
-fn is_hidden<T: AsEntry>(snapshots: &[SeqNo], last: &Option<(UserKey, SeqNo)>, item: &T) -> bool
+fn is_hidden<T: AsEntry>(snapshots: &[SeqNo], last: &(UserKey, SeqNo), item: &T) -> bool
+    ensures { result ≡ is_hidden T.entry snapshots.now (Some last.now) item.now }
+{
+    let item = item.view();
+    item.compare_key(last.0.as_slice()).is_eq() && !is_parted(snapshots, item.seqno(), last.1)
+}
+
+// The same where there may be no last one yet.
+fn is_hidden_by<T: AsEntry>(snapshots: &[SeqNo], last: &Option<(UserKey, SeqNo)>, item: &T) -> bool
     ensures { result ≡ is_hidden T.entry snapshots.now last.now item.now }
 {
     match last {
-        Some((user_key, newer)) => {
-            let item = item.view();
-            item.compare_key(user_key.as_slice()).is_eq()
-                && !is_parted(snapshots, item.seqno(), *newer)
-        }
+        Some(last) => is_hidden(snapshots, last, item),
         None => false,
     }
+}
+
+// Whether a version has the key of the last one, and a snapshot sees it and not the last one.
+fn is_parted_from<T: AsEntry>(snapshots: &[SeqNo], last: &(UserKey, SeqNo), item: &T) -> bool
+    ensures { result ≡ is_parted_from T.entry snapshots.now last.now item.now }
+{
+    let item = item.view();
+    item.compare_key(last.0.as_slice()).is_eq() && is_parted(snapshots, item.seqno(), last.1)
+}
+
+// A source of which a version may be held that was taken ahead.
+#[derive(Drop)]
+struct Ahead<T: AsEntry, I: Source<T>> {
+    source: I,
+    held: Option<T>,
+}
+
+impl<T: AsEntry + Drop, I: Source<T>> Ahead<T, I> {
+    // Takes the version that is held, else the first one left.
+    #[inline(always)]
+    fn take(&mut self, alloc: Global) -> Result<Option<T>>
+        ensures first { IfOk result (λ r. TakesFirst
+            (with_held self.old.held (I.left self.old.source)) r
+            (with_held self.new.held (I.left self.new.source))) }
+        ensures free { self.new.held ≡ None }
+        ensures cause { IfErr result (MayGive I.may_fail (I.left self.old.source)) }
+        ensures no_more { OnOk result
+            (MeetsNoMore (I.left self.old.source) (I.left self.new.source)) }
+    {
+        if self.held.is_none() {
+            return self.source.next_entry(alloc);
+        }
+        Ok(self.held.take())
+    }
+}
+
+// Whether a version of the last one's key is left under it. Passes the versions that the last one
+// hides, and holds the first other one.
+#[inline(never)]
+fn is_left_under<T: AsEntry + Drop, I: Source<T>>(
+    alloc: Global,
+    source: &mut Ahead<T, I>,
+    snapshots: &[SeqNo],
+    last: &(UserKey, SeqNo),
+) -> Result<bool>
+    ensures found { IfOk result (λ is_left. (xs : List T)
+        → (with_held source.old.held (I.left source.old.source)).list ≡ Some xs
+        → is_left ≡ is_left_under T.entry snapshots.now last.now xs) }
+    ensures passed { OnOk result (PassesHidden T.entry snapshots.now last.now
+        (with_held source.old.held (I.left source.old.source))
+        (with_held source.new.held (I.left source.new.source))) }
+    ensures cause { IfErr result (MayGive I.may_fail (I.left source.old.source)) }
+    ensures no_more { OnOk result
+        (MeetsNoMore (I.left source.old.source) (I.left source.new.source)) }
+{
+    while let Some(item) = source.take(alloc)? {
+        if is_seen(snapshots, item.view().seqno()) && is_hidden(snapshots, last, &item) {
+            continue;
+        }
+        let is_left = is_parted_from(snapshots, last, &item);
+        source.held = Some(item);
+        return Ok(is_left);
+    }
+    Ok(false)
+}
+
+// Whether a version goes that is the last one: it is a tombstone at the bottom, and none of its key
+// is left under it. Where every snapshot sees it, that needs no look ahead.
+#[tactic(auto, using(crate::specs::CompactLaws::none_under))]
+#[inline(always)]
+fn goes<T: AsEntry + Drop, I: Source<T>, B: Bottom>(
+    alloc: Global,
+    source: &mut Ahead<T, I>,
+    snapshots: &[SeqNo],
+    bottom: &B,
+    last: &(UserKey, SeqNo),
+    item: &T,
+) -> Result<bool>
+    ensures found { IfOk result (λ goes. (xs : List T)
+        → (with_held source.old.held (I.left source.old.source)).list ≡ Some xs
+        → goes ≡ (is_tombstone (T.entry item.now).key.value_type
+        && (B.at_bottom bottom.now last.now.0
+        && not (is_left_under T.entry snapshots.now last.now xs)))) }
+    ensures passed { OnOk result (PassesHidden T.entry snapshots.now last.now
+        (with_held source.old.held (I.left source.old.source))
+        (with_held source.new.held (I.left source.new.source))) }
+    ensures looks { (is_tombstone (T.entry item.now).key.value_type
+        && (B.at_bottom bottom.now last.now.0
+        && not (is_below_all snapshots.now last.now.1))) ≡ false → source.new ≡ source.old }
+    ensures cause { IfErr result (MayGive I.may_fail (I.left source.old.source)) }
+    ensures no_more { OnOk result
+        (MeetsNoMore (I.left source.old.source) (I.left source.new.source)) }
+{
+    if !item.view().is_tombstone() || !bottom.is_bottom(last.0.as_slice()) {
+        return Ok(false);
+    }
+    if is_below_all(snapshots, last.1) {
+        return Ok(true);
+    }
+    let is_left = is_left_under(alloc, source, snapshots, last)?;
+    Ok(!is_left)
 }
 
 // Takes versions from a source up to the first that stays, and notes the last one that is not hidden.
 #[inline(always)]
 fn next_staying<T: AsEntry + Drop, I: Source<T>, B: Bottom>(
     alloc: Global,
-    source: &mut I,
+    source: &mut Ahead<T, I>,
     snapshots: &[SeqNo],
     bottom: &B,
     last: &mut Option<(UserKey, SeqNo)>,
 ) -> Result<Option<T>>
     ensures first { IfOk result (λ r. TakesFirst
         (left_as (compact_from T.entry snapshots.now (B.at_bottom bottom.now) last.old) None
-        (I.left source.old)) r
+        (with_held source.old.held (I.left source.old.source))) r
         (left_as (compact_from T.entry snapshots.now (B.at_bottom bottom.now) last.new) None
-        (I.left source.new))) }
-    ensures cause { IfErr result (MayGive I.may_fail (I.left source.old)) }
-    ensures no_more { OnOk result (MeetsNoMore (I.left source.old) (I.left source.new)) }
+        (with_held source.new.held (I.left source.new.source)))) }
+    ensures cause { IfErr result (MayGive I.may_fail (I.left source.old.source)) }
+    ensures no_more { OnOk result
+        (MeetsNoMore (I.left source.old.source) (I.left source.new.source)) }
 {
-    while let Some(item) = source.next_entry(alloc)? {
+    while let Some(item) = source.take(alloc)? {
         let seqno = item.view().seqno();
         if !is_seen(snapshots, seqno) {
             return Ok(Some(item));
         }
-        if is_hidden(snapshots, last, &item) {
+        if is_hidden_by(snapshots, last, &item) {
             continue;
         }
-        let user_key = item.view().to_user_key(alloc)?;
-        let goes = item.view().is_tombstone()
-            && is_below_all(snapshots, seqno)
-            && bottom.is_bottom(user_key.as_slice());
-        *last = Some((user_key, seqno));
+        let newest = (item.view().to_user_key(alloc)?, seqno);
+        let goes = goes(alloc, source, snapshots, bottom, &newest, &item)?;
+        *last = Some(newest);
         if !goes {
             return Ok(Some(item));
         }

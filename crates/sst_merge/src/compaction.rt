@@ -15,9 +15,7 @@ use crate::output::Outputs;
 use crate::ranked::Ranked;
 use crate::source::Source;
 use crate::writing::{Sizes, write_table};
-use sst_base::{BlockHash, Result, SeqNo};
-use sst_block_core::AsEntry;
-use sstable_blocks::RunConfig;
+use sstable_blocks::{AsEntry, BlockHash, Result, RunConfig, SeqNo};
 use std::alloc::Global;
 
 // Writes all that is left of a source as tables, where no error ended it.

@@ -1,10 +1,9 @@
 //! Fronts of keys: their first bytes as numbers, by which a merge compares most versions.
 ghost use Rattle.std.specs.Prelude.{◌≡◌, ◌++◌, length, drop};
-ghost use Rattle.sst_base.specs.Bytes.{IsBytes};
-ghost use Rattle.sst_block_core.specs.Heads.{front};
 ghost use Rattle.sst_merge.specs.Fronts.{HasOrderOf, key_front};
+ghost use Rattle.sstable_blocks.specs.Prelude.{IsBytes, front};
 
-use sst_block_core::table::block::heads::front_of;
+use sstable_blocks::table::block::heads::front_of;
 
 // The front of two byte strings joined: their first 8 bytes.
 #[inline(always)]

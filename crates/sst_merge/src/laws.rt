@@ -6,23 +6,20 @@ ghost use Rattle.std.specs.List.{AllByRecursion};
 ghost use Rattle.std.specs.Option.{option_map};
 ghost use Rattle.std.specs.Ordering.{flip_args, nat_cmp, is_eq};
 ghost use Rattle.std.specs.Cmp.Lexicographic.{slice_cmp};
-ghost use Rattle.sst_base.specs.Entry.{Entry, plain};
-ghost use Rattle.sst_block_core.specs.Entries.{entries};
-ghost use Rattle.sst_block_core.specs.Handles.{Handle};
-ghost use Rattle.sst_block_core.specs.Kind.{IsOrdered};
-ghost use Rattle.sst_block_core.specs.Window.{first_match};
-ghost use Rattle.sstable_blocks.specs.Blocks.{joined};
-ghost use Rattle.sstable_blocks.specs.RunReading.{Hashes, handles_at};
-ghost use Rattle.sstable_blocks.specs.Sound.{IsSound};
-ghost use Rattle.sstable_blocks.specs.declared.run.RunHandles.{RunHandles};
 ghost use Rattle.sst_merge.specs.Compact.{IsKeptRead, compacted, staying};
 ghost use Rattle.sst_merge.specs.Levels.{AreWithin, HasNone, IsAbove, is_outside};
 ghost use Rattle.sst_merge.specs.Merge.{merged, least_match, entry_cmp};
 ghost use Rattle.sst_merge.specs.MovableTables.{table_blocks, table_errors};
 ghost use Rattle.sst_merge.specs.Snapshot.{seen, shown, snapshot};
 ghost use Rattle.sst_merge.specs.Stored.{known_reads};
+ghost use Rattle.sstable_blocks.specs.Blocks.{joined};
+ghost use Rattle.sstable_blocks.specs.declared.run.RunHandles.{RunHandles};
+ghost use Rattle.sstable_blocks.specs.Prelude.{Entry, plain, entries, Handle, IsOrdered};
+ghost use Rattle.sstable_blocks.specs.Prelude.{first_match};
+ghost use Rattle.sstable_blocks.specs.RunReading.{Hashes, handles_at};
+ghost use Rattle.sstable_blocks.specs.Sound.{IsSound};
 
-use sst_block_core::laws::{
+use sstable_blocks::laws::{
     data_block_is_read, data_check_is_by_stages, first_match_of_plain, index_block_is_read,
     index_check_is_by_stages,
 };
@@ -114,9 +111,9 @@ pub fn snapshot_shows()
         → snapshot (λ e. e) seqno items ≡ shown (λ e. e) seqno items }
 {}
 
-/// What a compaction leaves of an ordered list, said by each version and those before it: no snapshot
-/// sees it; or one sees it that sees no version of its key before it, and it is no tombstone at the
-/// bottom that every snapshot sees.
+/// What a compaction leaves of an ordered list, said by each version, those before it and those
+/// behind it: no snapshot sees it; or one sees it that sees no version of its key before it, and it is
+/// no tombstone at the bottom, or a snapshot sees a version of its key behind it and not it.
 pub fn compaction_leaves()
     ensures { (snapshots : List ℕ) (bottom : List ℕ → Bool) (items : List Entry)
         → IsOrdered entries items

@@ -4,7 +4,7 @@ ghost use Rattle.std.specs.Vec.Iter.{into_iter_items};
 
 use crate::rev::{Rev, Reversed, in_reverse};
 use crate::source::Source;
-use sst_base::Result;
+use sstable_blocks::Result;
 use std::alloc::Global;
 use std::vec;
 

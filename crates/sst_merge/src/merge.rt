@@ -5,15 +5,15 @@ ghost use Rattle.std.specs.Option.{option_map};
 ghost use Rattle.sst_merge.specs.Fronts.{IsFrontOf};
 ghost use Rattle.sst_merge.specs.Merge.{merged};
 ghost use Rattle.sst_merge.specs.Picks.{IsPick, goes};
-ghost use Rattle.sst_base.specs.declared.error.Error.TheVariants.{Memory};
 ghost use Rattle.sst_merge.specs.Sources.{TakesFirst, PassesFirst, all_left};
 ghost use Rattle.sst_merge.specs.Sources.{MayGive, MeetsNoMore};
 ghost use Rattle.sst_merge.specs.Tournament.{AreWinners, AreSeats, IsFirstOf, IsTournament, MayBeTournament};
+ghost use Rattle.sstable_blocks.specs.Results.{Memory};
 ghost use Rattle.sstable_blocks.specs.Scans.{EndsBy};
 
 use crate::ranked::Ranked;
 use crate::source::{Source, keep_error, note_error};
-use sst_base::{Error, Result};
+use sstable_blocks::{Error, Result};
 use std::alloc::Global;
 use std::cmp::Ordering;
 use std::marker::Model;

@@ -5,9 +5,6 @@ ghost use Rattle.std.specs.Cmp.Lexicographic.{slice_cmp};
 ghost use Rattle.std.specs.List.{AllByRecursion};
 ghost use Rattle.std.specs.Option.{option_map};
 ghost use Rattle.std.specs.Ordering.{is_lt, nat_cmp};
-ghost use Rattle.sst_base.specs.declared.error.Error.{Error};
-ghost use Rattle.sst_block_core.specs.Window.{first_left, last_left, next, next_back, some_left};
-ghost use Rattle.sst_block_core.specs.Window.{whole};
 ghost use Rattle.sst_merge.specs.KeyedLaws.{entry_by_key};
 ghost use Rattle.sst_merge.specs.Merge.{merged};
 ghost use Rattle.sst_merge.specs.Movable.{IsBackAmong, IsBackPick, IsFrontAmong, IsFrontPick};
@@ -17,11 +14,13 @@ ghost use Rattle.sst_merge.specs.Moved.{AsksAtMost, AsksByPlace, IsFreshSource, 
 ghost use Rattle.sst_merge.specs.Moved.{MayStop, Moved, StopsBy, are_known, back_frames, but_reads};
 ghost use Rattle.sst_merge.specs.Moved.{front_frames, merged_moved, seek_frames, seek_upper_frames};
 ghost use Rattle.sst_merge.specs.Moved.{sought, step_back, step_front, windows};
+ghost use Rattle.sstable_blocks.specs.Prelude.{first_left, last_left, next, next_back, some_left};
+ghost use Rattle.sstable_blocks.specs.Prelude.{whole};
+ghost use Rattle.sstable_blocks.specs.Results.{Error};
 
 use crate::ranked::Ranked;
 use crate::source::note_error;
-use sst_base::{Error, InternalValue, Result};
-use sst_block_core::table::data_block::EntryView;
+use sstable_blocks::{EntryView, Error, InternalValue, Result};
 use std::alloc::Global;
 use std::cmp::Ordering;
 use std::marker::Model;

@@ -1,19 +1,18 @@
 //! Ordered lists of entries in blocks, as sources that are moved.
 ghost use Rattle.std.specs.Prelude.{◌≡◌, ◌+◌, ◌<◌, ◌≤◌, count_by, drop, length, slice_get};
 ghost use Rattle.std.specs.Prelude.{false, take, true, ℕ};
-ghost use Rattle.sst_base.specs.Counted.{found_item};
-ghost use Rattle.sst_block_core.specs.Window.{whole};
-ghost use Rattle.sstable_blocks.specs.Blocks.{joined};
 ghost use Rattle.sst_merge.specs.Movable.{is_sought, item_before};
 ghost use Rattle.sst_merge.specs.MovableBlocks.{AreEntryBlocks, HoldsBack, HoldsFront, TakesFirstOf};
 ghost use Rattle.sst_merge.specs.MovableBlocks.{TakesLastOf, back_place, entries_before, entry_key};
 ghost use Rattle.sst_merge.specs.MovableBlocks.{block_lists, front_place, is_block_sought};
 ghost use Rattle.sst_merge.specs.Moved.{in_memory};
+ghost use Rattle.sstable_blocks.specs.Blocks.{joined};
+ghost use Rattle.sstable_blocks.specs.Prelude.{found_item, whole};
 
 use crate::movable::Movable;
 use crate::movable_list::passes;
-use sst_base::{BlockHash, Result};
-use sst_block_core::table::data_block::{DataBlockRef, EntryView, EntryViews};
+use sstable_blocks::table::data_block::{DataBlockRef, EntryViews};
+use sstable_blocks::{BlockHash, EntryView, Result};
 use std::alloc::Global;
 use std::marker::Model;
 
@@ -254,9 +253,8 @@ pub struct MovableBlocks<'a, H: BlockHash> {
 }
 
 impl<'a, H: BlockHash> Model for MovableBlocks<'a, H> {
-    ghost use Rattle.sst_base.specs.Entry.{Entry};
-    ghost use Rattle.sst_block_core.specs.Window.{Window};
     ghost use Rattle.sst_merge.specs.MovableBlocks.{AreEnds, block_lists, window_of};
+    ghost use Rattle.sstable_blocks.specs.Prelude.{Entry, Window};
 
     ghost Value = { Window Entry };
 

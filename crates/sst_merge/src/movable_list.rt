@@ -1,16 +1,12 @@
 //! Ordered lists in memory, as sources that are moved.
 ghost use Rattle.std.specs.Prelude.{◌≡◌, ◌+◌, ◌<◌, ◌≤◌, length, map, slice_get, slice_index};
 ghost use Rattle.std.specs.Prelude.{count_by, suc};
-ghost use Rattle.sst_block_core.specs.Entries.{entries};
-ghost use Rattle.sst_block_core.specs.Kind.{IsOrdered};
-ghost use Rattle.sst_block_core.specs.Window.{whole};
 ghost use Rattle.sst_merge.specs.Movable.{is_sought, item_before};
 ghost use Rattle.sst_merge.specs.Moved.{in_memory};
+ghost use Rattle.sstable_blocks.specs.Prelude.{entries, IsOrdered, whole};
 
 use crate::movable::Movable;
-use sst_base::Result;
-use sst_block_core::AsEntry;
-use sst_block_core::table::data_block::EntryView;
+use sstable_blocks::{AsEntry, EntryView, Result};
 use std::alloc::Global;
 use std::marker::Model;
 use std::mem;
@@ -82,9 +78,8 @@ pub struct MovableList<'a, T: AsEntry> {
 
 impl<'a, T: AsEntry> Model for MovableList<'a, T> {
     ghost use Rattle.std.specs.Prelude.{map};
-    ghost use Rattle.sst_base.specs.Entry.{Entry};
-    ghost use Rattle.sst_block_core.specs.Window.{Window};
     ghost use Rattle.sst_merge.specs.Movable.{HoldsEnds};
+    ghost use Rattle.sstable_blocks.specs.Prelude.{Entry, Window};
 
     ghost Value = { Window Entry };
 

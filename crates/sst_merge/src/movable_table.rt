@@ -3,11 +3,6 @@ ghost use Rattle.std.specs.Prelude.{◌≡◌, ◌+◌, ◌<◌, ◌≤◌, ◌^
 ghost use Rattle.std.specs.Prelude.{◌*◌, IsOkUnless, None, OnOk, Some, false, min, true};
 ghost use Rattle.std.specs.List.{count_by};
 ghost use Rattle.std.specs.Option.{option_map};
-ghost use Rattle.sst_base.specs.declared.error.Error.TheVariants.{Memory};
-ghost use Rattle.sst_block_core.specs.Window.{items_left, whole};
-ghost use Rattle.sstable_blocks.specs.Blocks.{joined};
-ghost use Rattle.sstable_blocks.specs.RunReading.{hashes};
-ghost use Rattle.sstable_blocks.specs.Sources.{AsksUpTo};
 ghost use Rattle.sst_merge.specs.Merge.{entry_cmp};
 ghost use Rattle.sst_merge.specs.Movable.{is_sought};
 ghost use Rattle.sst_merge.specs.MovableBlocks.{HoldsBack, HoldsFront, TakesFirstOf, TakesLastOf};
@@ -19,14 +14,19 @@ ghost use Rattle.sst_merge.specs.MovableTables.{later_starts, search_from, table
 ghost use Rattle.sst_merge.specs.MovableTables.{table_errors, table_moved};
 ghost use Rattle.sst_merge.specs.Moved.{IsFreshSource, back_frames, front_frames, seek_frames};
 ghost use Rattle.sst_merge.specs.Moved.{seek_upper_frames};
+ghost use Rattle.sstable_blocks.specs.Blocks.{joined};
+ghost use Rattle.sstable_blocks.specs.Prelude.{items_left, whole};
+ghost use Rattle.sstable_blocks.specs.Results.{Memory};
+ghost use Rattle.sstable_blocks.specs.RunReading.{hashes};
+ghost use Rattle.sstable_blocks.specs.Sources.{AsksUpTo};
 
 use crate::movable::Movable;
 use crate::open_end::{OpenEnd, set_end};
 use crate::source::{keep_error, note_error};
-use sst_base::{BlockHash, Error, InternalValue, Result, Steps};
-use sst_block_core::table::block::bound::Bound;
-use sst_block_core::table::data_block::IntoEntries;
 use sstable_blocks::run::{FrameSource, Table};
+use sstable_blocks::table::block::bound::Bound;
+use sstable_blocks::table::data_block::IntoEntries;
+use sstable_blocks::{BlockHash, Error, InternalValue, Result, Steps};
 use std::alloc::Global;
 use std::marker::Model;
 use std::mem;
@@ -311,10 +311,10 @@ pub struct MovableTable<H: BlockHash, S: FrameSource> {
 
 impl<H: BlockHash, S: FrameSource> Model for MovableTable<H, S> {
     ghost use Rattle.std.specs.Prelude.{IfSome};
-    ghost use Rattle.sst_base.specs.Entry.{Entry};
-    ghost use Rattle.sstable_blocks.specs.RunReading.{hashes};
-    ghost use Rattle.sst_merge.specs.Moved.{Moved, unless_ended};
     ghost use Rattle.sst_merge.specs.MovableTables.{AreTableEnds, table_blocks, table_moved};
+    ghost use Rattle.sst_merge.specs.Moved.{Moved, unless_ended};
+    ghost use Rattle.sstable_blocks.specs.Prelude.{Entry};
+    ghost use Rattle.sstable_blocks.specs.RunReading.{hashes};
 
     ghost Value = { Moved Entry };
 

@@ -1,7 +1,7 @@
 //! A block of a table that is open at an end.
 ghost use Rattle.std.specs.Prelude.{◌≡◌, ◌+◌, ◌<◌, ◌^◌};
 
-use sst_base::InternalValue;
+use sstable_blocks::InternalValue;
 
 /// A block that was opened at an end of a table: its index, the index in it of the entry that is
 /// held, the entries that are left of it, and that entry.

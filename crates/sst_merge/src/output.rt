@@ -1,10 +1,9 @@
 //! Where tables are written.
 ghost use Rattle.std.specs.Prelude.{◌≡◌, ◌++◌, ◌∷◌, [], ℕ, List, Option, IfErr, IfOk, OnOk};
-ghost use Rattle.sst_base.specs.declared.error.Error.{Error};
 ghost use Rattle.sst_merge.specs.Outputs.{Output};
+ghost use Rattle.sstable_blocks.specs.Results.{Error};
 
-use sst_base::Result;
-use sstable_blocks::RunHandles;
+use sstable_blocks::{Result, RunHandles};
 
 /// Where an engine has its tables written: it opens a writer for each, and closes it.
 pub trait Outputs {

@@ -1,17 +1,15 @@
 //! Readers whose range of user keys is known.
 ghost use Rattle.std.specs.Prelude.{◌≡◌, ◌⊎◌, Some, None, true, false, if◌then◌else◌};
 ghost use Rattle.std.specs.Prelude.{IfErr, IfOk, IfSome, Ok};
-ghost use Rattle.sst_base.specs.declared.error.Error.TheVariants.{Memory};
 ghost use Rattle.std.specs.List.{AllByRecursion};
 ghost use Rattle.std.specs.Option.{option_map};
-ghost use Rattle.sst_base.specs.Counted.{CountsBetween};
-ghost use Rattle.sst_block_core.specs.Entries.{entries};
-ghost use Rattle.sst_block_core.specs.Window.{first_match};
 ghost use Rattle.sst_merge.specs.RangeLaws.{ranged_if_ordered};
 ghost use Rattle.sst_merge.specs.Ranges.{covers, ranged};
+ghost use Rattle.sstable_blocks.specs.Prelude.{CountsBetween, entries, first_match};
+ghost use Rattle.sstable_blocks.specs.Results.{Memory};
 
 use crate::reader::Reader;
-use sst_base::{InternalValue, Result, SeqNo, Steps, UserKey};
+use sstable_blocks::{InternalValue, Result, SeqNo, Steps, UserKey};
 use std::alloc::Global;
 
 // Whether a user key is between two, which belong to the range.

@@ -3,16 +3,14 @@ ghost use Rattle.std.specs.Prelude.{◌≡◌, ◌<◌, ℕ, false, true};
 ghost use Rattle.std.specs.Cmp.{IsTotalOrder};
 ghost use Rattle.std.specs.Ordering.{is_lt};
 ghost use Rattle.std.specs.declared.cmp.Ordering.{Ordering};
-ghost use Rattle.sst_base.specs.Bytes.{IsBytes};
-ghost use Rattle.sst_base.specs.KeyOrderLaws.{versions_cmp_total};
-ghost use Rattle.sst_block_core.specs.Entries.{entries};
 ghost use Rattle.sst_merge.specs.FrontLaws.{entry_tells};
 ghost use Rattle.sst_merge.specs.Fronts.{key_front};
 ghost use Rattle.sst_merge.specs.Merge.{entry_cmp};
+ghost use Rattle.sstable_blocks.specs.BlockLaws.{versions_cmp_total};
+ghost use Rattle.sstable_blocks.specs.Prelude.{IsBytes, entries};
 
 use crate::front::front_of_key;
-use sst_base::InternalValue;
-use sst_block_core::table::data_block::EntryView;
+use sstable_blocks::{EntryView, InternalValue};
 use std::cmp::Ordering;
 
 /// An item of a merge. Of two items whose fronts differ, that of the lesser front goes first.

@@ -1,18 +1,14 @@
 //! Point reads over several tables.
 ghost use Rattle.std.specs.Prelude.{◌≡◌, ◌⊎◌, ℕ, List, Option, Some, map, take, drop, IfErr, IfOk, IfSome};
-ghost use Rattle.sst_base.specs.declared.error.Error.{Error};
-ghost use Rattle.sst_base.specs.declared.error.Error.TheVariants.{Memory};
-ghost use Rattle.sst_base.specs.Counted.{CountsBetween};
-ghost use Rattle.sst_base.specs.Entry.{Entry};
-ghost use Rattle.sst_block_core.specs.Entries.{entries};
-ghost use Rattle.sst_block_core.specs.Kind.{IsOrdered};
-ghost use Rattle.sst_block_core.specs.Window.{first_match};
 ghost use Rattle.sst_merge.specs.Counts.{OneFails, most_of};
 ghost use Rattle.sst_merge.specs.Levels.{AreLevels, asked};
 ghost use Rattle.sst_merge.specs.Merge.{entry_cmp, lesser, merged};
 ghost use Rattle.sst_merge.specs.Sources.{all_known};
+ghost use Rattle.sstable_blocks.specs.Prelude.{CountsBetween, Entry, entries, IsOrdered};
+ghost use Rattle.sstable_blocks.specs.Prelude.{first_match};
+ghost use Rattle.sstable_blocks.specs.Results.{Error, Memory};
 
-use sst_base::{InternalValue, Result, SeqNo, Steps};
+use sstable_blocks::{InternalValue, Result, SeqNo, Steps};
 use std::alloc::Global;
 
 /// What is read by key: a table, or what an engine holds in memory.

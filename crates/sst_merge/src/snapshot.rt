@@ -4,8 +4,7 @@ ghost use Rattle.sst_merge.specs.Snapshot.{snapshot, visible_from, has_last_key}
 ghost use Rattle.sst_merge.specs.Sources.{MayGive, MeetsNoMore, TakesFirst, left_as};
 
 use crate::source::{Source, keep_error};
-use sst_base::{Error, Result, SeqNo, UserKey};
-use sst_block_core::AsEntry;
+use sstable_blocks::{AsEntry, Error, Result, SeqNo, UserKey};
 use std::alloc::Global;
 use std::marker::{Model, PhantomData};
 

@@ -1,11 +1,11 @@
 //! Sources of versions.
 ghost use Rattle.std.specs.Prelude.{◌≡◌, IfErr, IfOk, OnOk, None, Some};
-ghost use Rattle.sst_base.specs.declared.error.Error.{Error};
 ghost use Rattle.sst_merge.specs.Sources.{Left, MayGive, MeetsNoMore, TakesFirst};
-ghost use Rattle.std.specs.Result.{result_err};
+ghost use Rattle.sstable_blocks.specs.Results.{Error};
 ghost use Rattle.sstable_blocks.specs.Scans.{EndsBy};
+ghost use Rattle.std.specs.Result.{result_err};
 
-use sst_base::{Error, Result};
+use sstable_blocks::{Error, Result};
 use std::alloc::Global;
 
 /// An ordered list of versions, which are taken one after the other: a scan of a table, what an

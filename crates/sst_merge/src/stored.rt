@@ -11,11 +11,10 @@ ghost use Rattle.sst_merge.specs.TableReads.{table_ordered};
 use crate::reader::Reader;
 use crate::rev::{Rev, Reversed, in_reverse};
 use crate::source::Source;
-use sst_base::{BlockHash, InternalValue, Result, SeqNo, Steps};
-use sst_block_core::laws::first_match_of_plain;
-use sst_block_core::table::data_block::EntryView;
+use sstable_blocks::laws::first_match_of_plain;
 use sstable_blocks::run::laws::{accepted_run_is_sound, sound_is_scanned};
 use sstable_blocks::run::{FrameSource, RunScan, Scan, SharedScan, Table};
+use sstable_blocks::{BlockHash, EntryView, InternalValue, Result, SeqNo, Steps};
 use std::alloc::Global;
 
 /// A scan of a stored table. Its entries are known where the bytes of the table are, every block

@@ -12,9 +12,7 @@ use crate::block_len::form_len;
 use crate::merge::Head;
 use crate::ranked::Ranked;
 use crate::source::Source;
-use sst_base::{BlockHash, Error, Output, Result};
-use sst_block_core::AsEntry;
-use sstable_blocks::{RunConfig, RunHandles, RunWriter};
+use sstable_blocks::{AsEntry, BlockHash, Error, Output, Result, RunConfig, RunHandles, RunWriter};
 use std::alloc::Global;
 
 /// How large blocks and tables become, in bytes of entries as they are encoded: of a key that is not

@@ -1,9 +1,7 @@
 -- Tables of either kind: what reads find among their entries, and what a scan begins with.
 use Rattle.std.proofs.Common.{◌≡◌, ℕ, List, Option, Some, None, IfSome, IfOk, Result, Ok, map, sym, subst, ◌∙◌, ap}
-use Rattle.sst_base.specs.Entry.{Entry, plain}
-use Rattle.sst_base.specs.declared.error.Error.{Error}
-use Rattle.sst_block_core.specs.Entries.{entries}
-use Rattle.sst_block_core.specs.Window.{first_match}
+use Rattle.sstable_blocks.specs.Prelude.{Entry, plain, entries, first_match}
+use Rattle.sstable_blocks.specs.Results.{Error}
 use Rattle.sst_parts.specs.AnyScans.{BeginsAnyScan, ended_in, left_in, range_in, source_of}
 use Rattle.sst_parts.specs.AnyTables.{FindsInAny, HasEntries, source_in}
 use Rattle.sst_parts.specs.Parts.{PartedParts}

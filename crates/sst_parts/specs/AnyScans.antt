@@ -1,9 +1,7 @@
 -- Scans of tables of either kind.
 use Rattle.std.specs.Prelude.{◌≡◌, ◌+◌, ◌<◌, ℕ, List, length, Option, None, IfSome, Result, IfErr}
-use Rattle.sst_base.specs.Entry.{Entry}
-use Rattle.sst_base.specs.declared.error.Error.{Error}
-use Rattle.sst_base.specs.declared.error.Error.TheVariants.{Io}
-use Rattle.sst_block_core.specs.Handles.{Handle}
+use Rattle.sstable_blocks.specs.Prelude.{Entry, Handle}
+use Rattle.sstable_blocks.specs.Results.{Error, Io}
 use Rattle.sst_parts.specs.PartScans.{BeginsPartScan, IsSamePartScan, PartScanParts, parts_left}
 use Rattle.sst_parts.specs.declared.any_scan.AnyScan.{AnyScan}
 use Rattle.sst_parts.specs.declared.any_scan.AnyScan.TheVariants as scans
@@ -12,6 +10,7 @@ use Rattle.sst_parts.specs.declared.any_table.AnyTable.TheVariants as tables
 use Rattle.sstable_blocks.specs.RunReading.{Hashes}
 use Rattle.sstable_blocks.specs.Scans.{BeginsTableScan, GivesFirst, GivesLast, IsSameScan, KeyRange, Read, ScanParts, most_left, reads_left}
 use Rattle.sstable_blocks.specs.Sources.{KeepsSource}
+use Rattle.sstable_blocks.specs.Tallies.{Adds, CountsFirst, CountsLast, least_taken, most_taken}
 
 -- the source of a scan, its range, the handles of what it has not reached, the error that ended it, if one did, and at most
 -- how many entries are left
@@ -63,6 +62,19 @@ GivesFirstOfAny c bytes failures is_reliable old new result = IfSome (bytes (sou
 abbrev pub GivesLastOfAny : {H S : Type 0} → Hashes → (S → Option (List ℕ)) → (S → ℕ) → (S → Type 0) → AnyScan H S → AnyScan H S → Result (Option Entry) Error → Type 0
 GivesLastOfAny c bytes failures is_reliable old new result = IfSome (bytes (source_of old)) (λ all. ended_in old ≡ None
     → GivesLast (failures (source_of old) < failures (source_of new)) (is_reliable (source_of old)) (left_in c all old) (left_in c all new) result)
+
+-- What a step of a scan of a plain table examines, at least and at most; one in parts does not say.
+abbrev pub LooksInAnyScan : {H S : Type 0} → AnyScan H S → AnyScan H S → Result (Option Entry) Error → Type 0
+LooksInAnyScan (scans.Plain old) (scans.Plain new) result = Adds old.counted new.counted (least_taken result)
+LooksInAnyScan old new result = Unit {0}
+
+abbrev pub CountsFirstOfAny : {H S : Type 0} → (S → Option (List ℕ)) → AnyScan H S → AnyScan H S → Result (Option Entry) Error → Type 0
+CountsFirstOfAny bytes (scans.Plain old) (scans.Plain new) result = IfSome (bytes old.table.source) (λ all. CountsFirst all old.table.interval old.counted old.handles new.counted new.handles (most_taken result))
+CountsFirstOfAny bytes old new result = Unit {0}
+
+abbrev pub CountsLastOfAny : {H S : Type 0} → (S → Option (List ℕ)) → AnyScan H S → AnyScan H S → Result (Option Entry) Error → Type 0
+CountsLastOfAny bytes (scans.Plain old) (scans.Plain new) result = IfSome (bytes old.table.source) (λ all. CountsLast all old.table.interval old.counted old.handles new.counted new.handles (most_taken result))
+CountsLastOfAny bytes old new result = Unit {0}
 
 -- a scan of a range of a table begins
 abbrev pub BeginsAnyScan : {H S : Type 0} → Hashes → (S → Option (List ℕ)) → AnyTable H S → KeyRange → AnyScan H S → Type 0

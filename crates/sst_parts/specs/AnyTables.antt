@@ -1,20 +1,18 @@
 -- Tables of either kind: what is kept of a file, and what is read of it.
-use Rattle.std.specs.Prelude.{◌≡◌, ℕ, List, Option, Result, Ok, Err}
-use Rattle.sst_base.specs.BlockHandle.{HandleParts}
-use Rattle.sst_base.specs.Counted.{Counted, CountsBetween}
-use Rattle.sst_base.specs.Entry.{Entry}
-use Rattle.sst_base.specs.declared.error.Error.{Error}
-use Rattle.sst_base.specs.declared.error.Error.TheVariants.{InvalidTag}
-use Rattle.sst_block_core.specs.Handles.{Handle, handles}
-use Rattle.sst_parts.specs.Parts.{FindsInParts, IsParted, parted_most, read_by_top, tops_by_footer}
+use Rattle.std.specs.Prelude.{◌≡◌, ℕ, ◌+◌, ◌<◌, List, Option, Result, Ok, Err}
+use Rattle.sstable_blocks.specs.Prelude.{HandleParts, Counted, CountsBetween, Entry, Handle, handles}
+use Rattle.sstable_blocks.specs.Results.{Error, InvalidTag}
+use Rattle.sst_parts.specs.Parts.{FindsInParts, IsParted, parted_frames, parted_most, read_by_top, tops_by_footer, tops_frames}
 use Rattle.sst_parts.specs.declared.any_table.AnyTable.{AnyTable}
 use Rattle.sst_parts.specs.declared.any_table.AnyTable.TheVariants.{Plain, Parted}
 use Rattle.sstable_blocks.specs.Blocks.{joined}
+use Rattle.sstable_blocks.specs.FrameCounts.{file_frames}
 use Rattle.sstable_blocks.specs.Lookup.{handle_for}
 use Rattle.sstable_blocks.specs.ReadCosts.{CountsRead}
 use Rattle.sstable_blocks.specs.RunReading.{Hashes, read_checked}
 use Rattle.sstable_blocks.specs.Sound.{FindsFirst, IsSound}
-use Rattle.sstable_blocks.specs.Tables.{kept_by_footer}
+use Rattle.sstable_blocks.specs.Sources.{AsksExactly, AsksUpTo}
+use Rattle.sstable_blocks.specs.Tables.{LooksBy, frames_by, kept_by_footer, kept_says}
 use Rattle.sstable_blocks.specs.declared.run.RunHandles.{RunHandles}
 use Rattle.sstable_blocks.specs.declared.run.table.OpenError.{OpenError}
 
@@ -34,6 +32,17 @@ or_parted (Err e) tops = Err e
 -- what is kept of a table file, by its footer
 abbrev pub any_by_footer : Hashes → List ℕ → Result AnyKept Error
 any_by_footer c bytes = or_parted (kept_by_footer c bytes) (tops_by_footer c bytes)
+
+-- so many frames more, where a file is refused as a plain table by the type of a frame
+abbrev pub frames_more : Result (RunHandles × Option (List ℕ) × List Handle) Error → ℕ → ℕ
+frames_more (Ok kept) n = 0
+frames_more (Err (InvalidTag name tag)) n = n
+frames_more (Err e) n = 0
+
+-- the frames that are asked for to open a table file of either kind: those of a plain one, then, where it is refused so, those
+-- of a parted one
+abbrev pub any_frames : Hashes → List ℕ → ℕ
+any_frames c bytes = file_frames c bytes + frames_more (kept_by_footer c bytes) (tops_frames bytes)
 
 abbrev pub kept_in : {H S : Type 0} → AnyTable H S → AnyKept
 kept_in (Plain t) = plain (t.handles, t.filter, t.index)
@@ -91,3 +100,14 @@ IsPartedOf kept (Parted t) = kept ≡ Ok (t.top, t.tops)
 abbrev pub CountsAny : {H S : Type 0} → List ℕ → AnyTable H S → List ℕ → ℕ → Counted → Counted → Type 0
 CountsAny all (Plain t) needle seqno old new = CountsRead all t.handles needle seqno old new
 CountsAny all (Parted t) needle seqno old new = CountsBetween old new (1, 0) (parted_most all t.tops t.interval needle seqno)
+
+-- the frames that a read of a table asks for: of a plain one exactly those that its filter and its index say, of a parted one at
+-- most four
+abbrev pub AsksOfAny : {H S Y : Type 0} → (List ℕ → ℕ) → AnyTable H S → List ℕ → ℕ → Result Y Error → ℕ → ℕ → Type 0
+AsksOfAny hash64 (Plain t) needle seqno = AsksExactly (frames_by (kept_says hash64 t.filter needle) (handle_for handles needle seqno t.index))
+AsksOfAny hash64 (Parted t) needle seqno = AsksUpTo (parted_frames t.tops needle seqno)
+
+-- what a read of a table looks at: of a plain one what its filter allows, of a parted one at least a head
+abbrev pub LooksInAny : {H S : Type 0} → (List ℕ → ℕ) → AnyTable H S → List ℕ → Counted → Counted → Type 0
+LooksInAny hash64 (Plain t) needle old new = LooksBy (kept_says hash64 t.filter needle) old new
+LooksInAny hash64 (Parted t) needle old new = old.heads < new.heads

@@ -3,12 +3,8 @@ use Rattle.std.specs.Prelude.{◌≡◌, ◌⊎◌, ℕ, ◌+◌, ◌-◌, ◌*�
 use Rattle.std.specs.List.{AllByRecursion}
 use Rattle.std.specs.Map.{lookup}
 use Rattle.lru.specs.LruCache.{promoted}
-use Rattle.sst_base.specs.Counted.{Counted, CountsBetween}
-use Rattle.sst_base.specs.Entry.{Entry}
-use Rattle.sst_base.specs.declared.error.Error.{Error}
-use Rattle.sst_block_core.specs.DataBlock.{DataBlockParts}
-use Rattle.sst_block_core.specs.Handles.{Handle}
-use Rattle.sst_block_core.specs.Intervals.{digits}
+use Rattle.sstable_blocks.specs.Prelude.{Counted, CountsBetween, Entry, DataBlockParts, Handle, digits}
+use Rattle.sstable_blocks.specs.Results.{Error}
 use Rattle.sst_parts.specs.ManyReads.{IsBlockAt}
 use Rattle.sstable_blocks.specs.Opened.{range_of}
 use Rattle.sstable_blocks.specs.ReadCosts.{CountsGrow, entries_at, heads_at, most_by}

@@ -1,11 +1,8 @@
 -- Reads of many keys of a table, each block read once.
 use Rattle.std.specs.Prelude.{◌≡◌, ℕ, ◌+◌, ◌≤◌, ◌==◌, nat_lt, if◌then◌else◌, List, [], ◌∷◌, length, slice_get, Option, Some, None, IfSome, Result, Ok, Err, Bool, true, false}
 use Rattle.std.specs.Option.{option_map}
-use Rattle.sst_base.specs.Entry.{Entry}
-use Rattle.sst_base.specs.Header.{◌>>=◌}
-use Rattle.sst_base.specs.declared.error.Error.{Error}
-use Rattle.sst_block_core.specs.DataBlock.{DataBlockParts}
-use Rattle.sst_block_core.specs.Handles.{Handle, handles}
+use Rattle.sstable_blocks.specs.Prelude.{Entry, DataBlockParts, Handle, handles}
+use Rattle.sstable_blocks.specs.Results.{◌>>=◌, Error}
 use Rattle.sstable_blocks.specs.Lookup.{place_for}
 use Rattle.sstable_blocks.specs.Opened.{range_of}
 use Rattle.sstable_blocks.specs.RunReading.{Hashes, block_items_at, read_block}

@@ -2,13 +2,8 @@
 use Rattle.std.specs.Prelude.{◌≡◌, ℕ, ◌+◌, ◌-◌, ◌^◌, ◌&&◌, min, max, nat_eq, not, Bool, true, List, [], length, Option, Some, None, Result, Ok}
 use Rattle.std.specs.Cmp.Lexicographic.{slice_cmp}
 use Rattle.std.specs.Ordering.{nat_cmp, ordering_then, is_eq, is_lt}
-use Rattle.sst_base.specs.BlockHandle.{HandleParts}
-use Rattle.sst_base.specs.Entry.{Entry}
-use Rattle.sst_base.specs.Frame.{demand}
-use Rattle.sst_base.specs.Header.{◌>>=◌}
-use Rattle.sst_base.specs.declared.error.Error.{Error}
-use Rattle.sst_base.specs.declared.error.Error.TheVariants.{BadHandle, OutOfOrder}
-use Rattle.sst_block_core.specs.Handles.{Handle}
+use Rattle.sstable_blocks.specs.Prelude.{HandleParts, Entry, demand, Handle}
+use Rattle.sstable_blocks.specs.Results.{◌>>=◌, Error, BadHandle, OutOfOrder}
 use Rattle.sst_parts.specs.Parts.{IsParted, tops_at}
 use Rattle.sst_parts.specs.declared.checking.Passed.{Passed}
 use Rattle.sst_parts.specs.declared.checking.PartedSummary.{PartedSummary}

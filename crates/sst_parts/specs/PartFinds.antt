@@ -1,10 +1,6 @@
 -- Finding in bytes that are a parted table.
 use Rattle.std.specs.Prelude.{◌≡◌, ℕ, List, Option, Some, None, Ok}
-use Rattle.sst_base.specs.BlockHandle.{HandleParts}
-use Rattle.sst_base.specs.Entry.{Entry}
-use Rattle.sst_block_core.specs.Entries.{entries}
-use Rattle.sst_block_core.specs.Handles.{Handle, IsIndexBlock}
-use Rattle.sst_block_core.specs.Window.{first_match}
+use Rattle.sstable_blocks.specs.Prelude.{HandleParts, Entry, entries, Handle, IsIndexBlock, first_match}
 use Rattle.sst_parts.specs.Parts.{IsStoredPart, tops_at}
 use Rattle.sstable_blocks.specs.Blocks.{joined}
 use Rattle.sstable_blocks.specs.Opened.{IsFrameRange, payload_in}

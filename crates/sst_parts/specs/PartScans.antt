@@ -1,10 +1,7 @@
 -- Scans of parted tables: the entries within a range of keys, from both ends, a part at a time.
 use Rattle.std.specs.Prelude.{◌≡◌, ℕ, ◌+◌, ◌*◌, ◌<◌, ◌^◌, Bool, List, [], ◌∷◌, ◌++◌, length, map, Option, Some, None, IfSome, Result, Ok, Err, IfErr, MatchResult}
-use Rattle.sst_base.specs.BlockHandle.{HandleParts}
-use Rattle.sst_base.specs.Entry.{Entry, plain}
-use Rattle.sst_base.specs.declared.error.Error.{Error}
-use Rattle.sst_base.specs.declared.error.Error.TheVariants.{Io}
-use Rattle.sst_block_core.specs.Handles.{Handle}
+use Rattle.sstable_blocks.specs.Prelude.{HandleParts, Entry, plain, Handle}
+use Rattle.sstable_blocks.specs.Results.{Error, Io}
 use Rattle.sst_parts.specs.Parts.{IsParted, PartedParts}
 use Rattle.sstable_blocks.specs.BlockReading.{seen_from}
 use Rattle.sstable_blocks.specs.Blocks.{joined}

@@ -2,13 +2,8 @@
 use Rattle.std.specs.Prelude.{◌≡◌, ℕ, ◌+◌, ◌-◌, ◌≤◌, ◌<◌, ◌^◌, ◌&&◌, ◌||◌, Bool, true, nat_le, if◌then◌else◌, List, [], ◌∷◌, ◌++◌, length, sum_by, Option, None, Some, Ok}
 use Rattle.std.specs.Io.KnownBytes.{Appends}
 use Rattle.std.specs.List.{AllByRecursion}
-use Rattle.sst_base.specs.BlockHandle.{HandleParts}
-use Rattle.sst_base.specs.Entry.{Entry}
-use Rattle.sst_base.specs.Frame.{frame}
-use Rattle.sst_base.specs.declared.table.block.block_type.BlockType.TheVariants.{Meta}
-use Rattle.sst_block_core.specs.Entries.{entries}
-use Rattle.sst_block_core.specs.Handles.{Handle, handles, IsIndexBlock, index_payload}
-use Rattle.sst_block_core.specs.Kind.{IsOrdered}
+use Rattle.sstable_blocks.specs.Prelude.{HandleParts, Entry, frame, entries, Handle, handles, IsIndexBlock, index_payload, IsOrdered}
+use Rattle.sstable_blocks.specs.BlockTypes.{Meta}
 use Rattle.sst_parts.specs.Parts.{IsParted}
 use Rattle.sst_parts.specs.declared.closed.PartEnd.{PartEnd}
 use Rattle.sst_parts.specs.declared.writer.PartSizes.{PartSizes}

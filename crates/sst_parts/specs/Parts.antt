@@ -2,18 +2,9 @@
 use Rattle.std.specs.Prelude.{◌≡◌, ℕ, ◌+◌, ◌-◌, ◌*◌, ◌<◌, ◌≤◌, ◌^◌, nat_lt, if◌then◌else◌, List, length, take, drop, Option, Some, None, IfSome, Result, Ok, Err, IfOk}
 use Rattle.std.specs.List.{AllZip}
 use Rattle.std.specs.Option.{option_map}
-use Rattle.sst_base.specs.BlockHandle.{HandleParts}
-use Rattle.sst_base.specs.Counted.{found_item}
-use Rattle.sst_base.specs.Entry.{Entry}
-use Rattle.sst_base.specs.Header.{◌>>=◌}
-use Rattle.sst_base.specs.declared.error.Error.{Error}
-use Rattle.sst_base.specs.declared.error.Error.TheVariants.{Truncated}
-use Rattle.sst_base.specs.declared.table.block.block_type.BlockType.TheVariants as types
-use Rattle.sst_block_core.specs.Checks.{index_check}
-use Rattle.sst_block_core.specs.Entries.{entries}
-use Rattle.sst_block_core.specs.Handles.{Handle, handles, IsIndexBlock}
-use Rattle.sst_block_core.specs.Kind.{IsOrdered}
-use Rattle.sst_block_core.specs.Window.{first_match}
+use Rattle.sstable_blocks.specs.Prelude.{HandleParts, found_item, Entry, index_check, entries, Handle, handles, IsIndexBlock, IsOrdered, first_match}
+use Rattle.sstable_blocks.specs.Results.{◌>>=◌, Error, Truncated}
+use Rattle.sstable_blocks.specs.BlockTypes as types
 use Rattle.sstable_blocks.specs.Blocks.{joined}
 use Rattle.sstable_blocks.specs.Footer.{footer_handles, table_handles}
 use Rattle.sstable_blocks.specs.Lookup.{IsEnd, handle_for}
@@ -22,6 +13,7 @@ use Rattle.sstable_blocks.specs.ReadCosts.{find_cost, heads_most_in, entries_mos
 use Rattle.sstable_blocks.specs.Run.{IsFramed}
 use Rattle.sstable_blocks.specs.RunReading.{Hashes, IsFramedAt, range_at, payload_at, read_checked}
 use Rattle.sstable_blocks.specs.Sound.{AreContiguous, IsSound}
+use Rattle.sstable_blocks.specs.Walks.{frames_after}
 use Rattle.sstable_blocks.specs.declared.run.RunHandles.{RunHandles}
 use Rattle.sstable_blocks.specs.declared.run.table.OpenError.{OpenError}
 
@@ -61,6 +53,10 @@ abbrev pub tops_at : Hashes → List ℕ → HandleParts → Result (List Handle
 tops_at c bytes top = do
   p ← payload_at c types.Meta bytes top
   index_check p
+
+-- the frames that are asked for to open the file of a parted table: its footer, then the index of its parts
+abbrev pub tops_frames : List ℕ → ℕ
+tops_frames bytes = 1 + frames_after (table_handles bytes) (λ _. 1)
 
 -- the handle of that frame and the handles of the parts, by the footer of a file
 unfoldable pub tops_by_footer : Hashes → List ℕ → Result (HandleParts × List Handle) Error

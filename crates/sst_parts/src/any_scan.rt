@@ -1,16 +1,18 @@
 //! Scans of tables of either kind.
 ghost use Rattle.std.specs.Prelude.{◌≡◌, ◌<◌, true, IfOk, IfSome, None};
 ghost use Rattle.std.specs.declared.ops.Bound.TheVariants.{Unbounded};
-ghost use Rattle.sst_parts.specs.AnyScans.{BeginsAnyScan, GivesFirstOfAny, GivesLastOfAny};
-ghost use Rattle.sst_parts.specs.AnyScans.{IsSameAnyScan, UsesAnyScan, ended_in, most_in, range_in};
+ghost use Rattle.sst_parts.specs.AnyScans.{BeginsAnyScan, CountsFirstOfAny, CountsLastOfAny};
+ghost use Rattle.sst_parts.specs.AnyScans.{GivesFirstOfAny, GivesLastOfAny, IsSameAnyScan};
+ghost use Rattle.sst_parts.specs.AnyScans.{LooksInAnyScan, UsesAnyScan, ended_in, most_in};
+ghost use Rattle.sst_parts.specs.AnyScans.{range_in};
 ghost use Rattle.sstable_blocks.specs.Ends.{IsFewer};
 ghost use Rattle.sstable_blocks.specs.RunReading.{hashes};
 ghost use Rattle.sstable_blocks.specs.Scans.{EndsBy, in_range, range_by};
 
 use crate::any_table::AnyTable;
 use crate::scan::PartedScan;
-use sst_base::{BlockHash, InternalValue, Result};
 use sstable_blocks::run::{FrameSource, Scan};
+use sstable_blocks::{BlockHash, InternalValue, Result};
 use std::alloc::Global;
 use std::ops::Bound;
 
@@ -39,6 +41,8 @@ impl<'k, H: BlockHash, S: FrameSource> AnyScan<'k, H, S> {
             self.old self.new result }
         ensures ended { EndsBy (ended_in self.old) (ended_in self.new) result }
         ensures fewer { IfOk result (IsFewer (most_in self.old) (most_in self.new)) }
+        ensures looked { LooksInAnyScan self.old self.new result }
+        ensures counts { CountsFirstOfAny S.bytes self.old self.new result }
     {
         match self {
             AnyScan::Plain(scan) => scan.next_entry(alloc),
@@ -62,6 +66,8 @@ impl<'k, H: BlockHash, S: FrameSource> AnyScan<'k, H, S> {
             self.old self.new result }
         ensures ended { EndsBy (ended_in self.old) (ended_in self.new) result }
         ensures fewer { IfOk result (IsFewer (most_in self.old) (most_in self.new)) }
+        ensures looked { LooksInAnyScan self.old self.new result }
+        ensures counts { CountsLastOfAny S.bytes self.old self.new result }
     {
         match self {
             AnyScan::Plain(scan) => scan.next_entry_back(alloc),

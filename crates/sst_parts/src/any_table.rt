@@ -1,17 +1,16 @@
 //! Tables of either kind in a file.
 ghost use Rattle.std.specs.Prelude.{◌≡◌, ◌<◌, ◌↔◌, Ok, IfSome, IsTrue, MatchResult, true};
-ghost use Rattle.sst_parts.specs.AnyTables.{IsOtherType, IsPartedOf, any_by_footer};
-ghost use Rattle.sst_parts.specs.AnyTables.{CountsAny, FindsInAny, any_error_after};
-ghost use Rattle.sst_parts.specs.AnyTables.{any_source_after, index_of, kept_in, read_any, source_in};
-ghost use Rattle.sst_parts.specs.AnyTables.{with_source};
-ghost use Rattle.sst_parts.specs.Parts.{tops_by_footer};
+ghost use Rattle.sst_parts.specs.AnyTables.{AsksOfAny, CountsAny, FindsInAny, IsOtherType};
+ghost use Rattle.sst_parts.specs.AnyTables.{IsPartedOf, LooksInAny, any_by_footer, any_error_after};
+ghost use Rattle.sst_parts.specs.AnyTables.{any_frames, any_source_after, index_of, kept_in};
+ghost use Rattle.sst_parts.specs.AnyTables.{read_any, source_in, with_source};
+ghost use Rattle.sst_parts.specs.Parts.{tops_by_footer, tops_frames};
 ghost use Rattle.sstable_blocks.specs.RunReading.{hashes};
-ghost use Rattle.sstable_blocks.specs.Sources.{AsksAny, AsksUpTo, FailsAs, ReadsAs, UsesSource};
+ghost use Rattle.sstable_blocks.specs.Sources.{AsksAny, AsksAs, FailsAs, ReadsAs, UsesSource};
 
 use crate::table::PartedTable;
-use sst_base::{BlockHash, Error, InternalValue, Result, SeqNo, Steps};
-use sst_block_core::IndexBlock;
 use sstable_blocks::run::{FrameSource, OpenError, SizedSource, Table};
+use sstable_blocks::{BlockHash, Error, IndexBlock, InternalValue, Result, SeqNo, Steps};
 use std::alloc::Global;
 
 /// A table in a source: plain, or parted.
@@ -40,6 +39,8 @@ fn open_parted<H: BlockHash, S: SizedSource>(
 ) -> std::result::Result<AnyTable<H, S>, OpenError<S>>
     ensures source { UsesSource S.bytes S.failures S.reads S.is_reliable AsksAny
         source (any_source_after result) (any_error_after result) }
+    ensures asked { AsksAs S.bytes S.failures S.reads source (any_source_after result)
+        (any_error_after result) (λ all. tops_frames all) }
     ensures exact { IfSome (S.bytes source) (λ all. MatchResult result
         (λ t. IsPartedOf (tops_by_footer (hashes H.hash64 H.hash128) all) t)
         (λ e. FailsAs (S.failures source < S.failures e.source) (S.is_reliable source)
@@ -63,6 +64,8 @@ impl<H: BlockHash, S: SizedSource> AnyTable<H, S> {
     pub fn open_file(alloc: Global, source: S) -> std::result::Result<AnyTable<H, S>, OpenError<S>>
         ensures source { UsesSource S.bytes S.failures S.reads S.is_reliable AsksAny
             source (any_source_after result) (any_error_after result) }
+        ensures asked { AsksAs S.bytes S.failures S.reads source (any_source_after result)
+            (any_error_after result) (λ all. any_frames (hashes H.hash64 H.hash128) all) }
         ensures exact { IfSome (S.bytes source) (λ all. MatchResult result
             (λ t. any_by_footer (hashes H.hash64 H.hash128) all ≡ Ok (kept_in t))
             (λ e. FailsAs (S.failures source < S.failures e.source) (S.is_reliable source)
@@ -96,8 +99,9 @@ impl<H: BlockHash, S: FrameSource> AnyTable<H, S> {
         steps: &mut Steps,
     ) -> Result<Option<InternalValue>>
         ensures kept { self.new ≡ with_source self.old (source_in self.new) }
-        ensures source { UsesSource S.bytes S.failures S.reads S.is_reliable (AsksUpTo 4)
-            (source_in self.old) (source_in self.new) result }
+        ensures source { UsesSource S.bytes S.failures S.reads S.is_reliable
+            (AsksOfAny H.hash64 self.old needle.now seqno) (source_in self.old) (source_in self.new)
+            result }
         ensures exact { ReadsAs S.bytes S.failures S.is_reliable (source_in self.old)
             (source_in self.new) (λ x. x) result (λ all. read_any (hashes H.hash64 H.hash128) all
             self.old needle.now seqno) }
@@ -105,6 +109,7 @@ impl<H: BlockHash, S: FrameSource> AnyTable<H, S> {
             (FindsInAny (hashes H.hash64 H.hash128) self.old needle.now seqno result) }
         ensures counts { IfSome (S.bytes (source_in self.old))
             (λ all. CountsAny all self.old needle.now seqno steps.old steps.new) }
+        ensures looked { LooksInAny H.hash64 self.old needle.now steps.old steps.new }
     {
         match self {
             AnyTable::Plain(table) => table.get(alloc, needle, seqno, steps),

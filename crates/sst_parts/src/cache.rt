@@ -7,9 +7,9 @@ ghost use Rattle.sst_parts.specs.Caches.{looked_up};
 ghost use Rattle.sstable_blocks.specs.RunReading.{hashes};
 
 use lru::LruCache;
-use sst_base::{BlockHash, Error, History, Result};
-use sst_block_core::{DataBlock, KeyedBlockHandle};
+use sstable_blocks::ghost_state::History;
 use sstable_blocks::run::{FrameSource, Table};
+use sstable_blocks::{BlockHash, DataBlock, Error, KeyedBlockHandle, Result};
 use std::alloc::Global;
 use std::collections::LinkedList;
 use std::marker::Model;

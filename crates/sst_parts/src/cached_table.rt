@@ -2,10 +2,10 @@
 ghost use Rattle.std.specs.Prelude.{◌≡◌, ◌*◌, ◌+◌, ◌-◌, ◌<◌, ◌^◌, ◌↔◌, None, Some, IfOk, IfSome};
 ghost use Rattle.std.specs.Prelude.{◌++◌, ◌∷◌, [], IfErr, IsErr, IsOkUnless, IsSome, OnErr, length};
 ghost use Rattle.std.specs.Prelude.{slice_get};
-ghost use Rattle.sst_base.specs.Counted.{CountsBetween};
 ghost use Rattle.sst_parts.specs.Caches.{IsAdded, IsReadOf, KeepsRead, LeavesCache, ReadsBy, ReadsPlace};
 ghost use Rattle.sst_parts.specs.Caches.{cached_frames, cached_most, frames_for, kept_at};
 ghost use Rattle.sst_parts.specs.ManyReads.{IsOpened, located, place_of};
+ghost use Rattle.sstable_blocks.specs.Prelude.{CountsBetween};
 ghost use Rattle.sstable_blocks.specs.RunReading.{hashes, read_checked};
 ghost use Rattle.sstable_blocks.specs.Sound.{FindsFirst};
 ghost use Rattle.sstable_blocks.specs.Sources.{AsksExactly, ReadsAs, UsesSource};
@@ -13,9 +13,9 @@ ghost use Rattle.sstable_blocks.specs.Tables.{LooksBy, kept_says};
 
 use crate::cache::BlockCache;
 use crate::many::locate;
-use sst_base::{BlockHash, Error, InternalValue, Result, SeqNo, Steps};
 use sstable_blocks::run::laws::sound_is_read;
 use sstable_blocks::run::{FrameSource, Table};
+use sstable_blocks::{BlockHash, Error, InternalValue, Result, SeqNo, Steps};
 use std::alloc::Global;
 use std::marker::Model;
 

@@ -1,23 +1,23 @@
 //! Checking whole parted tables.
 ghost use Rattle.std.specs.Prelude.{◌≡◌, ◌≢◌, ◌+◌, ◌<◌, ◌^◌, length, IfErr, OnOk};
-ghost use Rattle.sst_base.specs.declared.error.Error.TheVariants.{Io};
 ghost use Rattle.sst_parts.specs.PartChecks.{begins_after, first_with, is_end_at, no_parts};
 ghost use Rattle.sst_parts.specs.PartChecks.{check_bytes as bytes_checked, check_ends};
 ghost use Rattle.sst_parts.specs.PartChecks.{check_file as file_checked};
 ghost use Rattle.sst_parts.specs.PartChecks.{check_part as part_checked};
 ghost use Rattle.sst_parts.specs.PartChecks.{check_parts as parts_checked, parts_frames};
 ghost use Rattle.sst_parts.specs.PartChecks.{whole_with};
+ghost use Rattle.sstable_blocks.specs.Results.{Io};
 ghost use Rattle.sstable_blocks.specs.RunReading.{hashes};
 ghost use Rattle.sstable_blocks.specs.Sources.{AsksAs, AsksExactly, AsksIfOk, GivesOr, ReadsAs};
 ghost use Rattle.sstable_blocks.specs.Sources.{UsesSource};
 ghost use Rattle.sstable_blocks.specs.Walks.{place_frames, walked};
 
-use crate::part_bytes::PartBytes;
-use crate::table::handles_from;
-use sst_base::{BlockHash, Error, Result, SeqNo, Slice, UserKey};
-use sst_block_core::table::block::ParsedItem;
-use sst_block_core::{IndexBlock, KeyedBlockHandle};
-use sstable_blocks::run::{FrameSource, RunSummary, check};
+use sstable_blocks::run::footer::read_table_footer;
+use sstable_blocks::run::{FrameSource, MemorySource, RunSummary, check};
+use sstable_blocks::table::block::ParsedItem;
+use sstable_blocks::{
+    BlockHash, Error, IndexBlock, KeyedBlockHandle, Result, SeqNo, Slice, UserKey,
+};
 use std::alloc::Global;
 
 /// What a check of a parted table counted.
@@ -147,9 +147,9 @@ fn check_file<H: BlockHash>(alloc: Global, file: Slice) -> Result<RunSummary>
         (file_checked (hashes H.hash64 H.hash128) file) }
     ensures not_io { IfErr result (λ e. e ≢ Io) }
 {
-    let mut source = PartBytes::new(file);
-    let handles = handles_from::<PartBytes>(alloc, &mut source)?;
-    check::<H, PartBytes>(alloc, &mut source, &handles)
+    let mut source = MemorySource::new(file);
+    let handles = read_table_footer::<MemorySource>(alloc, &mut source)?;
+    check::<H, MemorySource>(alloc, &mut source, &handles)
 }
 
 // Checks the bytes of a part.

@@ -1,24 +1,23 @@
 //! The parts of a parted table that are closed while it is written.
 ghost use Rattle.std.specs.Prelude.{◌≡◌, ◌⊎◌, ◌+◌, ◌++◌, ◌∷◌, [], ◌≤◌, ◌<◌, ◌^◌, IfErr, IfOk, IsErrOf};
 ghost use Rattle.std.specs.Prelude.{IfSome, IsNone, IsOkUnless, None, Some, length, map};
-ghost use Rattle.sst_base.specs.declared.error.Error.TheVariants.{Io, TooLong};
-ghost use Rattle.sst_block_core.specs.Entries.{entries};
-ghost use Rattle.sst_block_core.specs.Kind.{IsOrdered};
 ghost use Rattle.sst_parts.specs.PartWriting.{AppendsPart, AppendsParted, AppendsTop, Closes, IsCurrent};
 ghost use Rattle.sst_parts.specs.PartWriting.{IsLastOf, PartFileFits, TopFits};
 ghost use Rattle.sstable_blocks.specs.Blocks.{joined};
 ghost use Rattle.sstable_blocks.specs.Footer.{run_end};
+ghost use Rattle.sstable_blocks.specs.Prelude.{entries, IsOrdered};
+ghost use Rattle.sstable_blocks.specs.Results.{Io, TooLong};
 ghost use Rattle.sstable_blocks.specs.Run.{IsWritable, form};
 ghost use Rattle.sstable_blocks.specs.Writing.{IsWriteRefusal, PartFits, UsesWriter};
 
-use sst_base::table::block::header::HEADER_LEN;
-use sst_base::{
-    Block, BlockHandle, BlockHash, BlockOffset, BlockType, Contents, Error, History, InternalValue,
-    Output, Result, SeqNo, UserKey,
-};
-use sst_block_core::{AsEntry, IndexBlock, KeyedBlockHandle};
+use sstable_blocks::ghost_state::{Contents, History};
 use sstable_blocks::run::footer::FOOTER_LEN;
 use sstable_blocks::run::{RunConfig, RunHandles, RunWriter, encode_footer};
+use sstable_blocks::table::block::header::HEADER_LEN;
+use sstable_blocks::{
+    AsEntry, Block, BlockHandle, BlockHash, BlockOffset, BlockType, Error, IndexBlock,
+    InternalValue, KeyedBlockHandle, Output, Result, SeqNo, UserKey,
+};
 use std::alloc::Global;
 use std::collections::LinkedList;
 use std::marker::{Model, PhantomData};

@@ -4,35 +4,30 @@ ghost use Rattle.std.specs.Prelude.{◌≡◌, ◌++◌, ◌<◌, ◌^◌, ℕ, 
 ghost use Rattle.std.specs.Prelude.{slice_get};
 ghost use Rattle.std.specs.List.{AllZip};
 ghost use Rattle.std.specs.Option.{option_map};
-ghost use Rattle.sst_base.specs.Bytes.{IsBytes};
-ghost use Rattle.sst_base.specs.BlockHandle.{HandleParts};
-ghost use Rattle.sst_base.specs.Entry.{Entry, plain};
-ghost use Rattle.sst_block_core.specs.Entries.{entries};
-ghost use Rattle.sst_block_core.specs.Handles.{Handle, handles};
-ghost use Rattle.sst_block_core.specs.Kind.{IsOrdered};
-ghost use Rattle.sst_block_core.specs.Window.{first_match};
+ghost use Rattle.sst_parts.specs.declared.checking.PartedSummary.{PartedSummary};
 ghost use Rattle.sst_parts.specs.ManyReads.{IsRising, different, indexes, many_frames};
 ghost use Rattle.sst_parts.specs.PartChecks.{check_parted, summary_of_parts};
 ghost use Rattle.sst_parts.specs.PartFinds.{FoundPart, IsReadIndex};
+ghost use Rattle.sst_parts.specs.Parts.{IsParted, read_by_top, tops_at, tops_by_footer};
 ghost use Rattle.sst_parts.specs.PartScans.{parts_read};
 ghost use Rattle.sst_parts.specs.PartWriting.{IsPartedFile, IsPartedLayout};
-ghost use Rattle.sst_parts.specs.Parts.{IsParted, read_by_top, tops_at, tops_by_footer};
-ghost use Rattle.sst_parts.specs.declared.checking.PartedSummary.{PartedSummary};
 ghost use Rattle.sstable_blocks.specs.Blocks.{joined};
 ghost use Rattle.sstable_blocks.specs.Lookup.{IsEnd, first_in, handle_for, place_for};
+ghost use Rattle.sstable_blocks.specs.Prelude.{IsBytes, HandleParts, Entry, plain, entries, Handle};
+ghost use Rattle.sstable_blocks.specs.Prelude.{handles, IsOrdered, first_match};
 ghost use Rattle.sstable_blocks.specs.Run.{Form};
 ghost use Rattle.sstable_blocks.specs.RunReading.{Hashes, hashes};
 ghost use Rattle.sstable_blocks.specs.Scans.{KeyRange, handles_within, within};
 
-use sst_base::InternalValue;
-use sst_block_core::laws::{
+use sstable_blocks::laws::{
     index_block_is_read, index_check_accepts_encodings, index_check_is_by_stages,
 };
-use sst_block_core::{BlockItem, KeyedBlockHandle};
 use sstable_blocks::run::laws::{
     accepted_run_is_sound, first_match_is_in_one_block, layout_is_sound, sound_is_read,
     sound_is_scanned, sound_run_is_accepted, sound_run_is_read,
 };
+use sstable_blocks::table::block::BlockItem;
+use sstable_blocks::{InternalValue, KeyedBlockHandle};
 
 /// The first match of an ordered list in parts of blocks is that of the one part at which a search
 /// by key and sequence number over the ends of the parts stops, and there is none where it passes

@@ -13,7 +13,6 @@ mod closed;
 pub mod laws;
 pub mod many;
 mod part;
-mod part_bytes;
 pub mod parted_ref;
 pub mod scan;
 mod scan_end;

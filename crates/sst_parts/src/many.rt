@@ -1,23 +1,20 @@
 //! Reads of many keys of a table, each block read once.
 ghost use Rattle.std.specs.Prelude.{◌≡◌, ◌≢◌, ◌<◌, None, Ok, Some, IfErr, IfOk, IfSome, IsOkUnless, OnErr, OnOk};
 ghost use Rattle.std.specs.Prelude.{false, length, map, true};
-ghost use Rattle.sst_base.specs.declared.error.Error.TheVariants.{Io};
-ghost use Rattle.sst_base.specs.Counted.{CountsBetween};
 ghost use Rattle.sst_parts.specs.ManyReads.{IsLastBlock, IsOpenAt, IsOpened, block_frames};
 ghost use Rattle.sst_parts.specs.ManyReads.{index_after, last_index, located, many_frames, place_of};
 ghost use Rattle.sst_parts.specs.ManyReads.{read_each};
-ghost use Rattle.sst_block_core.specs.Entries.{entries};
-ghost use Rattle.sst_block_core.specs.Window.{first_match};
 ghost use Rattle.sstable_blocks.specs.Opened.{range_of};
+ghost use Rattle.sstable_blocks.specs.Prelude.{CountsBetween, entries, first_match};
+ghost use Rattle.sstable_blocks.specs.Results.{Io};
 ghost use Rattle.sstable_blocks.specs.RunReading.{block_items_at, hashes, read_checked};
 ghost use Rattle.sstable_blocks.specs.Scans.{AtHandle, index_cost};
 ghost use Rattle.sstable_blocks.specs.Sources.{AsksExactly, AsksUpTo, FailsAs, ReadsAs, UsesSource};
 ghost use Rattle.sstable_blocks.specs.Tables.{LooksBy, kept_says};
 
-use sst_base::{BlockHash, Error, InternalValue, Result, SeqNo, Steps};
-use sst_block_core::DataBlock;
-use sst_block_core::table::block::bound::Bound;
 use sstable_blocks::run::{FrameSource, Table};
+use sstable_blocks::table::block::bound::Bound;
+use sstable_blocks::{BlockHash, DataBlock, Error, InternalValue, Result, SeqNo, Steps};
 use std::alloc::Global;
 
 /// A key that is looked for, and the exclusive upper bound of the sequence numbers of its versions.

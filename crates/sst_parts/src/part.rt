@@ -2,17 +2,15 @@
 ghost use Rattle.std.specs.Prelude.{◌≡◌, ◌≢◌, ◌+◌, ◌<◌, ◌≤◌, ◌^◌, Option, IfErr, IfOk, IfSome};
 ghost use Rattle.std.specs.Prelude.{IsNone, OnOk, length};
 ghost use Rattle.std.specs.Option.{option_map};
-ghost use Rattle.sst_base.specs.Bytes.{IsBytes};
-ghost use Rattle.sst_base.specs.Counted.{CountsBetween, found_item};
-ghost use Rattle.sst_base.specs.declared.error.Error.TheVariants.{Io};
-ghost use Rattle.sst_block_core.specs.Handles.{Handle, handles};
-ghost use Rattle.sst_block_core.specs.Intervals.{digits};
 ghost use Rattle.sst_parts.specs.Parts.{IsInside, part_bytes, part_in, places_in, read_part};
 ghost use Rattle.sst_parts.specs.Parts.{most_by_places};
 ghost use Rattle.sstable_blocks.specs.Lookup.{handle_for};
 ghost use Rattle.sstable_blocks.specs.Opened.{index_in, range_of};
+ghost use Rattle.sstable_blocks.specs.Prelude.{IsBytes, CountsBetween, found_item, Handle, handles};
+ghost use Rattle.sstable_blocks.specs.Prelude.{digits};
 ghost use Rattle.sstable_blocks.specs.ReadCosts.{CountsRead, entries_at, find_cost, heads_at};
 ghost use Rattle.sstable_blocks.specs.ReadCosts.{interval_in, most_by};
+ghost use Rattle.sstable_blocks.specs.Results.{Io};
 ghost use Rattle.sstable_blocks.specs.RunReading.{hashes, filter_answer, filter_says, payload_at};
 ghost use Rattle.sstable_blocks.specs.RunReading.{handles_at, read_block, read_blocks};
 ghost use Rattle.sstable_blocks.specs.RunReading.{read_checked};
@@ -20,19 +18,19 @@ ghost use Rattle.sstable_blocks.specs.Sources.{AsksUpTo, GivesOr, ReadsAs, UsesS
 ghost use Rattle.sstable_blocks.specs.Sources.{filter_frames};
 ghost use Rattle.sstable_blocks.specs.Tables.{IsIndexIn};
 
-use sst_base::{
-    Block, BlockHandle, BlockHash, BlockOffset, BlockType, Error, InternalValue, Result, SeqNo,
-    Steps,
-};
-use sst_block_core::table::index_block::IndexBlockRef;
-use sst_block_core::{DataBlock, IndexBlock};
 use sstable_blocks::run::checked::block_from;
+use sstable_blocks::run::footer::FOOTER_LEN;
 use sstable_blocks::run::{FrameSource, RunHandles, decode_footer};
 use sstable_blocks::table::filter::FilterBlock;
+use sstable_blocks::table::index_block::IndexBlockRef;
+use sstable_blocks::{
+    Block, BlockHandle, BlockHash, BlockOffset, BlockType, DataBlock, Error, IndexBlock,
+    InternalValue, Result, SeqNo, Steps,
+};
 use std::alloc::Global;
 
-// The length of the footer of a part.
-const FOOTER: u32 = 24;
+// The length of the footer of a part, as a size of a frame.
+const FOOTER: u32 = FOOTER_LEN as u32;
 
 // The range in the source of a frame of a part, if it is inside the part.
 fn frame_in_part(part: &BlockHandle, handle: &BlockHandle) -> Option<BlockHandle>
@@ -166,6 +164,7 @@ fn read_in_block<H: BlockHash, S: FrameSource>(
     ensures counts { IfSome (part_bytes S.bytes part.now source.old)
         (λ all. (h : Option Handle) → handle.now ≡ option_map range_of h
         → CountsBetween steps.old steps.new (0, 0) (digits (heads_at all h), entries_at all h)) }
+    ensures looked { steps.old.heads ≤ steps.new.heads }
 {
     match handle {
         None => Ok(None),
@@ -216,6 +215,7 @@ fn read_by_index<H: BlockHash, S: FrameSource>(
     ensures counts { IfSome (part_bytes S.bytes part.now source.old) (λ all.
         CountsBetween steps.old steps.new (0, 0)
         (most_by all (index_in all index.now) (interval_in all index.now) needle.now seqno)) }
+    ensures looked { steps.old.heads ≤ steps.new.heads }
 {
     let index = index_in_part::<H, S>(alloc, source, part, index)?;
     let handle = find_range(&index, needle, seqno, steps);
@@ -241,6 +241,7 @@ fn read_run<H: BlockHash, S: FrameSource>(
         (λ all. read_checked (hashes H.hash64 H.hash128) all handles.now needle.now seqno) }
     ensures counts { IfSome (part_bytes S.bytes part.now source.old)
         (λ all. CountsRead all handles.now needle.now seqno steps.old steps.new) }
+    ensures looked { steps.old.heads ≤ steps.new.heads }
 {
     if filter_allows::<H, S>(alloc, source, part, &handles.filter, needle)? {
         read_by_index::<H, S>(alloc, source, part, &handles.index, needle, seqno, steps)
@@ -290,6 +291,7 @@ pub(crate) fn read_in_part<H: BlockHash, S: FrameSource>(
     ensures counts { IfSome (S.bytes source.old) (λ all.
         CountsBetween steps.old steps.new (0, 0)
         (most_by_places (part_in all part.now) (places_in all part.now) needle.now seqno)) }
+    ensures looked { steps.old.heads ≤ steps.new.heads }
 {
     let handles = places_from(alloc, source, part)?;
     read_run::<H, S>(alloc, source, part, &handles, needle, seqno, steps)

@@ -1,10 +1,5 @@
 //! Parted tables over borrowed bytes, read without checks and without memory.
 ghost use Rattle.std.specs.Prelude.{◌≡◌, ℕ, ◌+◌, ◌≤◌, List, IfOk, Ok, length};
-ghost use Rattle.sst_base.specs.Counted.{CountsBetween};
-ghost use Rattle.sst_base.specs.Entry.{Entry};
-ghost use Rattle.sst_block_core.specs.Entries.{entries};
-ghost use Rattle.sst_block_core.specs.Handles.{Handle, handles, IsIndexBlock};
-ghost use Rattle.sst_block_core.specs.Window.{first_match};
 ghost use Rattle.sst_parts.specs.PartChecks.{ForParted, IsPartedSummary, IsPartedTable};
 ghost use Rattle.sst_parts.specs.PartChecks.{check_parted, summary_of_parts};
 ghost use Rattle.sst_parts.specs.Parts.{IsStoredPart, most_by_places, part_in, parted_most};
@@ -12,49 +7,22 @@ ghost use Rattle.sst_parts.specs.Parts.{places_in, tops_at};
 ghost use Rattle.sstable_blocks.specs.Blocks.{joined};
 ghost use Rattle.sstable_blocks.specs.Footer.{table_handles};
 ghost use Rattle.sstable_blocks.specs.Opened.{IsFrameRange, payload_in, range_of};
+ghost use Rattle.sstable_blocks.specs.Prelude.{CountsBetween, Entry, entries, Handle, handles};
+ghost use Rattle.sstable_blocks.specs.Prelude.{IsIndexBlock, first_match};
 ghost use Rattle.sstable_blocks.specs.RunReading.{hashes};
 ghost use Rattle.sstable_blocks.specs.Sources.{GivesOr};
 
 use crate::checking::PartedSummary;
 use crate::laws::{parted_index_is_read, parted_is_accepted, parted_is_found};
 use crate::part::find_in;
-use crate::part_bytes::PartBytes;
 use crate::table::PartedTable;
-use sst_base::table::block::header::HEADER_LEN;
-use sst_base::{BlockHandle, BlockHash, Result, SeqNo, Slice, Steps};
-use sst_block_core::table::data_block::EntryView;
-use sst_block_core::table::index_block::IndexBlockRef;
-use sstable_blocks::run::{RunHandles, RunRef, decode_footer};
+use sstable_blocks::run::footer::FOOTER_LEN;
+use sstable_blocks::run::read::{index_over, payload_at};
+use sstable_blocks::run::{MemorySource, RunHandles, RunRef, decode_footer};
+use sstable_blocks::table::index_block::IndexBlockRef;
+use sstable_blocks::{BlockHandle, BlockHash, EntryView, Result, SeqNo, Slice, Steps};
 use std::alloc::Global;
 use std::marker::{Model, PhantomData};
-
-// The length of the footer of a part.
-const FOOTER: usize = 24;
-
-// The payload of a frame.
-#[tactic(auto, using(sstable_blocks::specs::PointLaws::payload_range), unfolding(sstable_blocks::specs::Opened::payload_in))]
-fn payload_at<'a>(bytes: &'a [u8], handle: &BlockHandle) -> &'a [u8]
-    requires { IsFrameRange bytes.now handle.now }
-    ensures { result.now ≡ payload_in bytes.now handle.now }
-{
-    let size = handle.size();
-    let start = *handle.offset() as usize;
-    &bytes[start + HEADER_LEN..start + size as usize]
-}
-
-// The index block in a frame, over the same bytes.
-#[tactic(auto, using(sstable_blocks::specs::RunLaws::payload_fits))]
-fn index_over<'a>(bytes: &'a [u8], handle: &BlockHandle) -> IndexBlockRef<'a>
-    requires range { IsFrameRange bytes.now handle.now }
-    requires index { (items : List Handle) × (r : ℕ)
-        × IsIndexBlock (payload_in bytes.now handle.now) items r }
-    ensures { (items : List Handle) (r : ℕ) → IsIndexBlock (payload_in bytes.now handle.now) items r
-        → (result.items ≡ items) × (result.interval ≡ r) }
-{
-    // A size has 32 bits.
-    let _fits = handle.size();
-    IndexBlockRef::new(payload_at(bytes, handle))
-}
 
 // The bytes of a part.
 fn part_of<'a>(bytes: &'a [u8], part: &BlockHandle) -> &'a [u8]
@@ -71,7 +39,7 @@ fn places_of(file: &[u8]) -> RunHandles
     requires { (places : RunHandles) × (table_handles file.now ≡ Ok places) }
     ensures { table_handles file.now ≡ Ok result }
 {
-    let (_, footer) = file.split_at(file.len() - FOOTER);
+    let (_, footer) = file.split_at(file.len() - FOOTER_LEN);
     match decode_footer(footer) {
         Ok(places) => places,
         Err(_) => unreachable!(),
@@ -114,8 +82,8 @@ fn summary_in<H: BlockHash>(
         (check_parted (hashes H.hash64 H.hash128) bytes.now top.now) }
     ensures sound { IfOk result (IsPartedSummary (hashes H.hash64 H.hash128) bytes.now top.now) }
 {
-    let source = PartBytes::new(bytes.clone()?);
-    let mut table = PartedTable::<H, PartBytes>::open(alloc, source, *top)?;
+    let source = MemorySource::new(bytes.clone()?);
+    let mut table = PartedTable::<H, MemorySource>::open(alloc, source, *top)?;
     table.verify(alloc)
 }
 

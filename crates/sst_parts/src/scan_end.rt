@@ -2,17 +2,16 @@
 ghost use Rattle.std.specs.Prelude.{◌≡◌, ◌≢◌, ◌≤◌, ◌^◌, [], ◌∷◌, Err, IfErr, IfOk, IfSome, None};
 ghost use Rattle.std.specs.Prelude.{OnErr, OnOk, true};
 ghost use Rattle.std.specs.Result.{result_err};
-ghost use Rattle.sst_base.specs.declared.error.Error.TheVariants.{Io, Memory};
 ghost use Rattle.sst_parts.specs.PartScans.{IsGoing, file_reads, most_in, reads_in};
 ghost use Rattle.sstable_blocks.specs.BlockReading.{seen_from};
 ghost use Rattle.sstable_blocks.specs.Ends.{IsFewer};
+ghost use Rattle.sstable_blocks.specs.Results.{Io, Memory};
 ghost use Rattle.sstable_blocks.specs.RunReading.{hashes};
 ghost use Rattle.sstable_blocks.specs.Scans.{GivesFirst, KeyRange, in_range, most_left, range_by};
 ghost use Rattle.sstable_blocks.specs.Scans.{reads_left};
 
-use crate::part_bytes::PartBytes;
-use sst_base::{BlockHash, InternalValue, Result, Slice};
-use sstable_blocks::run::{Scan, Table};
+use sstable_blocks::run::{MemorySource, Scan, Table};
+use sstable_blocks::{BlockHash, InternalValue, Result, Slice};
 use std::alloc::Global;
 use std::marker::Model;
 use std::ops::Bound;
@@ -20,7 +19,7 @@ use std::ops::Bound;
 // Takes the first entry left of a part, or the last one, or returns `None` if none is left.
 fn take_from<'k, H: BlockHash>(
     alloc: Global,
-    scan: &mut Scan<'k, H, PartBytes>,
+    scan: &mut Scan<'k, H, MemorySource>,
     back: bool,
 ) -> Result<Option<InternalValue>>
     requires { scan.old.ended ≡ None }
@@ -53,7 +52,7 @@ fn put<T: Drop>(place: &mut T, value: T)
 // The same where a part was opened. One that returns an error is let go.
 fn take_of<'k, H: BlockHash>(
     alloc: Global,
-    opened: &mut Option<Scan<'k, H, PartBytes>>,
+    opened: &mut Option<Scan<'k, H, MemorySource>>,
     back: bool,
 ) -> Result<Option<InternalValue>>
     requires { IfSome opened.old (λ s. s.ended ≡ None) }
@@ -85,7 +84,7 @@ fn take_of<'k, H: BlockHash>(
 pub(crate) struct ScanEnd<'k, H: BlockHash> {
     from: Bound<&'k [u8]>,
     to: Bound<&'k [u8]>,
-    opened: Option<Scan<'k, H, PartBytes>>,
+    opened: Option<Scan<'k, H, MemorySource>>,
 }
 
 impl<'k, H: BlockHash> Model for ScanEnd<'k, H> {
@@ -111,7 +110,7 @@ fn scan_of<'k, H: BlockHash>(
     bytes: Slice,
     from: Bound<&'k [u8]>,
     to: Bound<&'k [u8]>,
-) -> Result<Scan<'k, H, PartBytes>>
+) -> Result<Scan<'k, H, MemorySource>>
     ensures reads { IfOk result
         (λ s. reads_left (hashes H.hash64 H.hash128) s.table.source.inner s
         ≡ file_reads (hashes H.hash64 H.hash128) bytes
@@ -123,7 +122,7 @@ fn scan_of<'k, H: BlockHash>(
         ≡ Err e ∷ []) }
     ensures not_io { IfErr result (λ e. e ≢ Io) }
 {
-    let table = Table::<H, PartBytes>::open_file(alloc, PartBytes::new(bytes))?;
+    let table = Table::<H, MemorySource>::open_file(alloc, MemorySource::new(bytes))?;
     // A slice has fewer than 2^63 handles.
     let _count = table.index().len();
     Ok(table.scan_range(from, to))

@@ -2,16 +2,15 @@
 ghost use Rattle.std.specs.Prelude.{◌≡◌, ◌+◌, ◌<◌, ◌^◌, Ok, IfOk, IfSome, MatchResult, Option, true};
 ghost use Rattle.std.specs.Prelude.{OnOk, length};
 ghost use Rattle.std.specs.Option.{option_map};
-ghost use Rattle.sst_base.specs.Bytes.{IsBytes};
-ghost use Rattle.sst_base.specs.Counted.{CountsBetween};
-ghost use Rattle.sst_block_core.specs.Handles.{handles};
 ghost use Rattle.sst_parts.specs.PartChecks.{ForParted, IsPartedSummary, check_parted};
 ghost use Rattle.sst_parts.specs.PartChecks.{parts_frames, summary_of_parts};
 ghost use Rattle.sst_parts.specs.Parts.{FindsInParts, error_after, parted_frames, parted_most};
 ghost use Rattle.sst_parts.specs.Parts.{read_by_top, source_after, tops_at, tops_by_footer};
+ghost use Rattle.sst_parts.specs.Parts.{tops_frames};
 ghost use Rattle.sstable_blocks.specs.Footer.{table_handles};
 ghost use Rattle.sstable_blocks.specs.Lookup.{handle_for};
 ghost use Rattle.sstable_blocks.specs.Opened.{range_of};
+ghost use Rattle.sstable_blocks.specs.Prelude.{IsBytes, CountsBetween, handles};
 ghost use Rattle.sstable_blocks.specs.ReadCosts.{find_cost};
 ghost use Rattle.sstable_blocks.specs.RunReading.{hashes, range_at};
 ghost use Rattle.sstable_blocks.specs.Scans.{AtHandle};
@@ -21,14 +20,14 @@ ghost use Rattle.sstable_blocks.specs.Sources.{FailsAs, GivesOr, ReadsAs, UsesSo
 use crate::checking::{PartedSummary, check_parts};
 use crate::laws::{accepted_parted_is_sound, parted_is_accepted, parted_is_read};
 use crate::part::{find_range, read_in_part};
-use sst_base::{
-    BlockHandle, BlockHash, BlockType, Error, InternalValue, Result, SeqNo, Slice, Steps,
-};
-use sst_block_core::IndexBlock;
-use sst_block_core::laws::index_check_is_by_stages;
+use sstable_blocks::laws::index_check_is_by_stages;
 use sstable_blocks::run::checked::block_from;
-use sstable_blocks::run::footer::read_footer;
+use sstable_blocks::run::footer::read_table_footer;
 use sstable_blocks::run::{FrameSource, OpenError, RunHandles, SizedSource};
+use sstable_blocks::{
+    BlockHandle, BlockHash, BlockType, Error, IndexBlock, InternalValue, Result, SeqNo, Slice,
+    Steps,
+};
 use std::alloc::Global;
 use std::marker::{Model, PhantomData};
 
@@ -48,17 +47,6 @@ fn tops_from<H: BlockHash, S: FrameSource>(
     index_check_is_by_stages();
     let block = block_from::<H, S>(alloc, source, top, BlockType::Meta)?;
     IndexBlock::check(alloc, block)
-}
-
-// The handles in the footer of a file.
-pub(crate) fn handles_from<S: SizedSource>(alloc: Global, source: &mut S) -> Result<RunHandles>
-    ensures source { UsesSource S.bytes S.failures S.reads S.is_reliable
-        (AsksIfOk (λ _. 1)) source.old source.new result }
-    ensures exact { ReadsAs S.bytes S.failures S.is_reliable source.old source.new (λ h. h) result
-        (λ all. table_handles all) }
-{
-    let len = source.byte_len()?;
-    read_footer(alloc, source, len)
 }
 
 // The range of the part that can hold a key below a sequence number.
@@ -97,6 +85,7 @@ fn read_by_tops<H: BlockHash, S: FrameSource>(
     ensures counts { IfSome (S.bytes source.old)
         (λ all. CountsBetween steps.old steps.new (1, 0)
         (parted_most all index.now.items index.now.interval needle.now seqno)) }
+    ensures looked { steps.old.heads < steps.new.heads }
 {
     match find_part(index, needle, seqno, steps) {
         None => Ok(None),
@@ -120,8 +109,8 @@ pub struct PartedTable<H: BlockHash, S: FrameSource> {
 
 impl<H: BlockHash, S: FrameSource> Model for PartedTable<H, S> {
     ghost use Rattle.std.specs.Prelude.{◌≡◌, IfSome, Ok, true};
-    ghost use Rattle.sst_base.specs.Bytes.{IsBytes};
     ghost use Rattle.sst_parts.specs.Parts.{PartedParts, tops_at};
+    ghost use Rattle.sstable_blocks.specs.Prelude.{IsBytes};
     ghost use Rattle.sstable_blocks.specs.RunReading.{hashes};
 
     ghost Value = { PartedParts S };
@@ -207,13 +196,19 @@ impl<H: BlockHash, S: FrameSource> PartedTable<H, S> {
         ensures counts { IfSome (S.bytes self.old.source)
             (λ all. CountsBetween steps.old steps.new (1, 0)
             (parted_most all self.old.tops self.old.interval needle.now seqno)) }
+        ensures looked { steps.old.heads < steps.new.heads }
     {
         parted_is_read();
         read_by_tops::<H, S>(alloc, &mut self.source, &self.index, needle, seqno, steps)
     }
 
-    // Reads the bytes of the part of the handle at an index.
-    pub(crate) fn part_at(&mut self, alloc: Global, index: usize) -> Result<Slice>
+    /// Reads the bytes of the part of the handle at an index of the index of the parts, by one frame:
+    /// of a parted table they are a table file. Nothing of them is checked.
+    ///
+    /// # Errors
+    ///
+    /// Those of the source.
+    pub fn part_at(&mut self, alloc: Global, index: usize) -> Result<Slice>
         requires { index < length self.old.tops }
         ensures kept { self.new ≡ record self.old { source = self.new.source } }
         ensures source { UsesSource S.bytes S.failures S.reads S.is_reliable
@@ -302,13 +297,15 @@ impl<H: BlockHash, S: SizedSource> PartedTable<H, S> {
     ) -> std::result::Result<PartedTable<H, S>, OpenError<S>>
         ensures source { UsesSource S.bytes S.failures S.reads S.is_reliable
             (AsksIfOk (λ _. 2)) source (source_after result) (error_after result) }
+        ensures asked { AsksAs S.bytes S.failures S.reads source (source_after result)
+            (error_after result) (λ all. tops_frames all) }
         ensures exact { IfSome (S.bytes source) (λ all. MatchResult result
             (λ t. tops_by_footer (hashes H.hash64 H.hash128) all ≡ Ok (t.top, t.tops))
             (λ e. FailsAs (S.failures source < S.failures e.source) (S.is_reliable source)
             (tops_by_footer (hashes H.hash64 H.hash128) all) e.error)) }
     {
         let mut source = source;
-        match handles_from::<S>(alloc, &mut source) {
+        match read_table_footer::<S>(alloc, &mut source) {
             Ok(handles) => PartedTable::open(alloc, source, handles.index),
             Err(error) => Err(OpenError { error, source }),
         }

@@ -2,19 +2,19 @@
 ghost use Rattle.std.specs.Prelude.{◌≡◌, ◌↔◌, ◌-◌, ◌++◌, ◌∷◌, [], ◌≤◌, IfErr, IfOk, IsErrOf, IsTrue, ℕ};
 ghost use Rattle.std.specs.Prelude.{OnErr, if◌then◌else◌};
 ghost use Rattle.std.specs.Prelude.{None, length, map, true};
-ghost use Rattle.sst_base.specs.declared.error.Error.TheVariants.{Io};
 ghost use Rattle.sst_parts.specs.PartWriting.{AddsTo, AppendsParted, AppendsPartedFile, EndFits};
 ghost use Rattle.sst_parts.specs.PartWriting.{IsCurrent, IsNextPart, NextFits, PartFileFits};
 ghost use Rattle.sst_parts.specs.PartWriting.{blocks_so_far, data_len, is_full, reaches};
+ghost use Rattle.sstable_blocks.specs.Results.{Io};
 ghost use Rattle.sstable_blocks.specs.Run.{IsWritable, form};
 ghost use Rattle.sstable_blocks.specs.RunReading.{hashes};
 ghost use Rattle.sstable_blocks.specs.Writing.{Follows, IsWriteRefusal};
 
 use crate::closed::{ClosedParts, PartEnd};
 use crate::laws::parted_layout_is_parted;
-use sst_base::{BlockHandle, BlockHash, History, InternalValue, Output, Result};
-use sst_block_core::AsEntry;
+use sstable_blocks::ghost_state::History;
 use sstable_blocks::run::{RunConfig, RunWriter};
+use sstable_blocks::{AsEntry, BlockHandle, BlockHash, InternalValue, Output, Result};
 use std::alloc::Global;
 use std::collections::LinkedList;
 use std::marker::Model;

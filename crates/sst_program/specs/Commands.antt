@@ -3,8 +3,7 @@ use Rattle.std.specs.Prelude.{ℕ, ◌-◌, ◌^◌, nat_eq, if◌then◌else◌
 use Rattle.std.specs.Cmp.Lexicographic.{pointwise}
 use Rattle.std.specs.Option.{option_map}
 use Rattle.std.specs.Str.{is_utf8}
-use Rattle.sst_base.specs.Reading.{◌>>=◌}
-use Rattle.sst_base.specs.declared.config.HashRatio.{HashRatio}
+use Rattle.sstable_blocks.specs.Prelude.{◌>>=◌, HashRatio}
 use Rattle.sstable_blocks.specs.declared.run.RunConfig.{RunConfig}
 use Rattle.sst_program.specs.Query.{Query, Packing, Lookup}
 use Rattle.sst_program.specs.Text.{number_of, number_within, hex_bytes}

@@ -3,11 +3,9 @@ use Rattle.std.specs.Prelude.{◌≡◌, ◌≢◌, ℕ, ◌<◌, ◌^◌, ◌==
 use Rattle.std.specs.Fmt.{decimal}
 use Rattle.std.specs.Option.{option_map}
 use Rattle.hex.specs.Hex.{encode_lower}
-use Rattle.sst_base.specs.declared.value_type.ValueType.{ValueType}
-use Rattle.sst_base.specs.declared.value_type.ValueType.TheVariants.{Value, Tombstone, WeakTombstone, Indirection}
 use Rattle.std.specs.Str.Parse.{digits_value}
-use Rattle.sst_base.specs.Entry.{Entry, IsEntry, plain_value}
-use Rattle.sst_base.specs.Reading.{◌>>=◌}
+use Rattle.sstable_blocks.specs.ValueTypes.{ValueType, Value, Tombstone, WeakTombstone, Indirection}
+use Rattle.sstable_blocks.specs.Prelude.{Entry, IsEntry, plain_value, ◌>>=◌}
 use Rattle.sst_program.specs.Text.{IsNumberText, number_of, hex_bytes}
 
 -- the letter of a type: V, T, W, I

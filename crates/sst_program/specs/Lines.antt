@@ -1,6 +1,6 @@
 -- The lines of an input, and the entries that they encode.
 use Rattle.std.specs.Prelude.{ℕ, ◌+◌, ◌==◌, if◌then◌else◌, List, [], ◌∷◌, Option, Some, None, Result, Ok, Err}
-use Rattle.sst_base.specs.Entry.{Entry}
+use Rattle.sstable_blocks.specs.Prelude.{Entry}
 use Rattle.sst_program.specs.declared.fault.Fault.{Fault}
 use Rattle.sst_program.specs.declared.fault.Fault.TheVariants.{Entry as NoEntry}
 use Rattle.sst_program.specs.Line.{entry_of_line}

@@ -1,10 +1,7 @@
 -- What `point` prints: the block of all entries in hex, and the entry that is found in it.
 use Rattle.std.specs.Prelude.{ℕ, List, [], ◌∷◌, ◌++◌, map, codes, Option, Some, None}
 use Rattle.hex.specs.Hex.{encode_lower}
-use Rattle.sst_base.specs.Entry.{Entry, plain}
-use Rattle.sst_base.specs.Hashes.{poly31}
-use Rattle.sst_block_core.specs.Entries.{entries, data_payload}
-use Rattle.sst_block_core.specs.Window.{first_match}
+use Rattle.sstable_blocks.specs.Prelude.{Entry, plain, poly31, entries, data_payload, first_match}
 use Rattle.sst_program.specs.Line.{entry_line_of}
 
 -- the payload of the block: no buckets, so the hash plays no part

@@ -1,7 +1,6 @@
 -- How an error of the library is reported.
 use Rattle.std.specs.Prelude.{ℕ, List, codes}
-use Rattle.sst_base.specs.declared.error.Error.{Error}
-use Rattle.sst_base.specs.declared.error.Error.TheVariants.{Io, InvalidHeader, InvalidTag, ChecksumMismatch, LengthMismatch, TooLong, Truncated, BadTrailer, BadEntry, OutOfOrder, BadIndex, BadHashIndex, BadFilter, BadHandle, Memory}
+use Rattle.sstable_blocks.specs.Results.{Error, Io, InvalidHeader, InvalidTag, ChecksumMismatch, LengthMismatch, TooLong, Truncated, BadTrailer, BadEntry, OutOfOrder, BadIndex, BadHashIndex, BadFilter, BadHandle, Memory}
 
 -- the number and the bare name of an error
 abbrev pub refusal_name_of : Error → List ℕ

@@ -1,9 +1,8 @@
 -- Table files: the blocks that `pack` cuts, and the bytes that it writes.
 use Rattle.std.specs.Prelude.{◌≡◌, ℕ, ◌≤◌, List, [], ◌∷◌, ◌++◌, length, None, Option}
 use Rattle.std.specs.Io.KnownBytes.{Appends}
-use Rattle.sst_base.specs.Entry.{Entry}
-use Rattle.sst_base.specs.declared.error.Error.{Error}
-use Rattle.sst_base.specs.Hashes.{poly31}
+use Rattle.sstable_blocks.specs.Prelude.{Entry, poly31}
+use Rattle.sstable_blocks.specs.Results.{Error}
 use Rattle.sstable_blocks.specs.Blocks.{joined}
 use Rattle.sstable_blocks.specs.Run.{Form, form}
 use Rattle.sstable_blocks.specs.Writing.{IsTable, IsWriteRefusal, TableFits, Writing}

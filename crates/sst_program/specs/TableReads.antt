@@ -2,17 +2,11 @@
 -- first refusal ends it.
 use Rattle.std.specs.Prelude.{◌≡◌, ◌≢◌, ◌⊎◌, ◌≤◌, IsOk, ℕ, ◌-◌, ◌^◌, min, List, [], ◌∷◌, length, take, map, Option, Some, None, Result, Ok, Err}
 use Rattle.std.specs.Io.KnownBytes.{Appends}
-use Rattle.sst_base.specs.BlockHandle.{HandleParts}
-use Rattle.sst_base.specs.Entry.{Entry}
-use Rattle.sst_base.specs.Hashes.{poly31}
-use Rattle.sst_base.specs.Header.{◌>>=◌}
-use Rattle.sst_base.specs.declared.error.Error.{Error}
-use Rattle.sst_base.specs.declared.error.Error.TheVariants.{Io, Truncated, Memory, BadHandle}
+use Rattle.sstable_blocks.specs.Prelude.{HandleParts, Entry, poly31, data_check, index_check, Handle}
+use Rattle.sstable_blocks.specs.Results.{◌>>=◌, Error, Io, Truncated, Memory, BadHandle}
 use Rattle.sst_program.specs.declared.fault.Fault.{Fault}
 use Rattle.sst_program.specs.declared.fault.Fault.TheVariants.{Refused}
-use Rattle.sst_base.specs.declared.table.block.block_type.BlockType.TheVariants as types
-use Rattle.sst_block_core.specs.Checks.{data_check, index_check}
-use Rattle.sst_block_core.specs.Handles.{Handle}
+use Rattle.sstable_blocks.specs.BlockTypes as types
 use Rattle.sstable_blocks.specs.Blocks.{joined}
 use Rattle.sstable_blocks.specs.Filter.{filter_at}
 use Rattle.sstable_blocks.specs.Footer.{table_handles}

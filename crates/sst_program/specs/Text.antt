@@ -6,7 +6,7 @@ use Rattle.std.specs.List.{list_all}
 use Rattle.std.specs.Result.{result_ok}
 use Rattle.std.specs.Str.Parse.{IsNumeral, digits_value}
 use Rattle.hex.specs.Hex.{decode_of}
-use Rattle.sst_base.specs.Reading.{◌>>=◌}
+use Rattle.sstable_blocks.specs.Prelude.{◌>>=◌}
 
 -- one or more decimal digits, of a number below 2 ^ 64
 abbrev pub IsNumberText : List ℕ → Type 0

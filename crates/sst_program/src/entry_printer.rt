@@ -4,18 +4,18 @@ ghost use Rattle.std.specs.Prelude.{◌≡◌, ◌⊎◌, ◌≤◌, [], ◌∷�
 ghost use Rattle.std.specs.Io.KnownBytes.{Appends, Keeps};
 ghost use Rattle.std.specs.Fmt.{decimal};
 ghost use Rattle.hex.specs.Hex.{encode_lower};
-ghost use Rattle.sst_base.specs.declared.error.Error.TheVariants.{Io, Memory};
-ghost use Rattle.sst_block_core.specs.Found.{optional_range, IsOptionalRange};
-ghost use Rattle.sst_block_core.specs.ParsedEntry.{entry_of, IsParsedEntry};
 ghost use Rattle.sst_program.specs.Line.{letter_of, byte_text_of, entry_line_of};
 ghost use Rattle.sst_program.specs.Outcome.{Puts, lines_text_of};
+ghost use Rattle.sstable_blocks.specs.Prelude.{optional_range, IsOptionalRange, entry_of};
+ghost use Rattle.sstable_blocks.specs.Prelude.{IsParsedEntry};
+ghost use Rattle.sstable_blocks.specs.Results.{Io, Memory};
 
 use crate::lines::letter_of;
 use crate::output::print_text;
 use itoa::Buffer;
-use sst_base::table::util::SliceIndexes;
-use sst_block_core::DataBlockParsedItem;
-use sst_block_core::table::block::key_ranges::bytes_of;
+use sstable_blocks::table::block::key_ranges::bytes_of;
+use sstable_blocks::table::data_block::DataBlockParsedItem;
+use sstable_blocks::table::util::SliceIndexes;
 use sstable_blocks::{DataBlock, Error, Poly31, Result, SeqNo, ValueType};
 use std::alloc::Global;
 use std::io::Write;

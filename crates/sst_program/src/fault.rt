@@ -1,8 +1,8 @@
 //! Why a run fails, and the line that reports it.
 ghost use Rattle.std.specs.Prelude.{◌≡◌};
-ghost use Rattle.sst_base.specs.declared.error.Error.TheVariants.{Memory};
 ghost use Rattle.sst_program.specs.declared.fault.Fault.TheVariants.{Refused};
 ghost use Rattle.sst_program.specs.Refusal.{refusal_name_of};
+ghost use Rattle.sstable_blocks.specs.Results.{Memory};
 
 use sstable_blocks::Error;
 use std::alloc::{AllocError, AllocFailed};

@@ -3,14 +3,14 @@ ghost use Rattle.std.specs.Prelude.{◌≡◌, ◌≢◌, ◌⊎◌, ◌+◌, �
 ghost use Rattle.std.specs.Prelude.{IfOk, IfErr, IfSome};
 ghost use Rattle.std.specs.Prelude.{IsOkUnless, string_bytes};
 ghost use Rattle.std.specs.Io.KnownBytes.{Keeps};
-ghost use Rattle.sst_base.specs.declared.error.Error.TheVariants.{Io, Memory};
-ghost use Rattle.sstable_blocks.specs.RunReading.{read_checked};
-ghost use Rattle.sstable_blocks.specs.Sources.{AsksUpTo, KeepsSource, ReadsAs, UsesSource};
-ghost use Rattle.sstable_blocks.specs.Sources.{filter_frames};
+ghost use Rattle.sst_program.specs.Outcome.{answer_text_of, PrintsAnswer, PrintsNothing, IsLibraryRefusal};
 ghost use Rattle.sst_program.specs.TableReads.{sst_hashes, PrintsAnswerOf, FailsAround};
 ghost use Rattle.sst_program.specs.TableReads.{IsRefusalOf};
 ghost use Rattle.sst_program.specs.TableReads.{table_answer, IsTableFault};
-ghost use Rattle.sst_program.specs.Outcome.{answer_text_of, PrintsAnswer, PrintsNothing, IsLibraryRefusal};
+ghost use Rattle.sstable_blocks.specs.Results.{Io, Memory};
+ghost use Rattle.sstable_blocks.specs.RunReading.{read_checked};
+ghost use Rattle.sstable_blocks.specs.Sources.{AsksUpTo, KeepsSource, ReadsAs, UsesSource};
+ghost use Rattle.sstable_blocks.specs.Sources.{filter_frames};
 
 use crate::fault;
 use crate::lines::answer_line;

@@ -1,11 +1,10 @@
 //! Reading all entries of an input.
 ghost use Rattle.std.specs.Prelude.{◌≡◌, ◌≢◌, ◌⊎◌, ◌≤◌, length, IfOk};
 ghost use Rattle.std.specs.Prelude.{IfErr};
-ghost use Rattle.sst_base.specs.declared.error.Error.TheVariants.{Memory, Io};
-ghost use Rattle.sst_block_core.specs.Kind.{IsOrdered};
-ghost use Rattle.sst_block_core.specs.Entries.{entries};
 ghost use Rattle.sst_program.specs.Lines.{entries_of_input};
 ghost use Rattle.sst_program.specs.Outcome.{IsOutcomeOf, IsFaultOf, run_of_input};
+ghost use Rattle.sstable_blocks.specs.Prelude.{IsOrdered, entries};
+ghost use Rattle.sstable_blocks.specs.Results.{Memory, Io};
 
 use crate::fault::{self, Fault};
 use crate::lines::entry_in;

@@ -1,8 +1,7 @@
 //! The order of entries.
 ghost use Rattle.std.specs.Prelude.{◌≡◌, ◌≤◌, length, IsNone};
-ghost use Rattle.sst_block_core.specs.Kind.{IsOrdered};
-ghost use Rattle.sst_block_core.specs.Entries.{entries};
 ghost use Rattle.sst_program.specs.Outcome.{fault_of_items};
+ghost use Rattle.sstable_blocks.specs.Prelude.{IsOrdered, entries};
 
 use crate::fault::Fault;
 use sstable_blocks::{DataBlock, InternalValue, Poly31};

@@ -2,11 +2,10 @@
 ghost use Rattle.std.specs.Prelude.{◌≡◌, ◌≤◌, OnOk, IfOk, IfErr};
 ghost use Rattle.std.specs.Prelude.{IsErrOf, IsOkUnless, length};
 ghost use Rattle.std.specs.Prelude.{None, string_bytes};
-ghost use Rattle.sst_base.specs.declared.error.Error.TheVariants.{Io};
-ghost use Rattle.sst_block_core.specs.Entries.{entries};
-ghost use Rattle.sst_block_core.specs.Kind.{IsOrdered};
 ghost use Rattle.sst_program.specs.Outcome.{packed_text_of, PrintsPacked, PrintsNothing, IsPackFault};
 ghost use Rattle.sst_program.specs.Table.{AppendsPacked, IsCutBy, IsFreshRun, IsWriteFault};
+ghost use Rattle.sstable_blocks.specs.Prelude.{entries, IsOrdered};
+ghost use Rattle.sstable_blocks.specs.Results.{Io};
 ghost use Rattle.sstable_blocks.specs.Run.{IsWritable};
 ghost use Rattle.sstable_blocks.specs.Writing.{IsSameRun, UsesWriter};
 

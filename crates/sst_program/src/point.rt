@@ -4,14 +4,11 @@ ghost use Rattle.std.specs.Prelude.{◌^◌, List, [], ◌∷◌, ◌++◌};
 ghost use Rattle.std.specs.Prelude.{length, map, IfOk, IfErr};
 ghost use Rattle.std.specs.Prelude.{OnOk, IsOkUnless};
 ghost use Rattle.std.specs.Io.KnownBytes.{Appends};
-ghost use Rattle.sst_block_core.specs.Kind.{IsOrdered};
-ghost use Rattle.sst_block_core.specs.Entries.{entries};
-ghost use Rattle.sst_block_core.specs.Encoders.{IsRefusal};
-ghost use Rattle.sst_base.specs.Entry.{plain};
 ghost use Rattle.hex.specs.Hex.{encode_lower};
-ghost use Rattle.sst_program.specs.Point.{point_payload, point_text_of};
 ghost use Rattle.sst_program.specs.Outcome.{outcome_of_query};
 ghost use Rattle.sst_program.specs.Outcome.{IsOutcomeOf, IsFaultOf, PrintsNothing};
+ghost use Rattle.sst_program.specs.Point.{point_payload, point_text_of};
+ghost use Rattle.sstable_blocks.specs.Prelude.{IsOrdered, entries, IsRefusal, plain};
 
 use crate::fault::{self, Fault};
 use crate::input::ordered_entries;

@@ -1,10 +1,9 @@
 //! Table files that `sst` writes: a new one, which then takes the place of the old one, or, where the
 //! name is no regular file's, in place.
 ghost use Rattle.std.specs.Prelude.{◌≡◌, ◌≤◌, length, IfOk, IfErr, IsErrOf};
-ghost use Rattle.sst_base.specs.declared.error.Error.TheVariants.{Io};
-ghost use Rattle.sst_block_core.specs.Entries.{entries};
-ghost use Rattle.sst_block_core.specs.Kind.{IsOrdered};
 ghost use Rattle.sst_program.specs.Table.{IsPacked, IsWriteFault};
+ghost use Rattle.sstable_blocks.specs.Prelude.{entries, IsOrdered};
+ghost use Rattle.sstable_blocks.specs.Results.{Io};
 
 use crate::pack::{Packed, write_table};
 use crate::words::PackWords;

@@ -2,9 +2,9 @@
 //! the index always, and errors would come in another order than that of a read.
 ghost use Rattle.std.specs.Prelude.{◌≡◌, ◌⊎◌, ◌<◌, IfErr};
 ghost use Rattle.std.specs.Prelude.{IfSome, IfOk, IsOkUnless};
-ghost use Rattle.sst_base.specs.declared.error.Error.TheVariants.{Io, Truncated, Memory};
 ghost use Rattle.sst_program.specs.TableReads.{index_read, block_read};
 ghost use Rattle.sstable_blocks.specs.Footer.{table_handles};
+ghost use Rattle.sstable_blocks.specs.Results.{Io, Truncated, Memory};
 ghost use Rattle.sstable_blocks.specs.Sources.{AsksExactly, GivesOr, ReadsAs, UsesSource};
 
 use sstable_blocks::run::checked::block_from;

@@ -3,13 +3,13 @@ ghost use Rattle.std.specs.Prelude.{◌≡◌, ◌≢◌, ◌⊎◌, ◌<◌, No
 ghost use Rattle.std.specs.Prelude.{OnOk, IfErr};
 ghost use Rattle.std.specs.Prelude.{IfSome};
 ghost use Rattle.std.specs.Io.KnownBytes.{Keeps};
-ghost use Rattle.sst_base.specs.declared.error.Error.TheVariants.{Io, Memory};
 ghost use Rattle.sst_program.specs.declared.fault.Fault.TheVariants.{Refused};
 ghost use Rattle.sst_program.specs.Outcome.{PrintsLines, IsLibraryRefusal};
 ghost use Rattle.sst_program.specs.TableReads.{block_read, blocks_listed, run_blocks};
 ghost use Rattle.sst_program.specs.TableReads.{FailsAround, FailsAmong, table_blocks, IsWalkFault};
 ghost use Rattle.sst_program.specs.TableReads.{IsRefusalOf, PrintsLinesOf, PrintsUntil};
 ghost use Rattle.sst_program.specs.TableReads.{PrintsBefore, PrintsFirst};
+ghost use Rattle.sstable_blocks.specs.Results.{Io, Memory};
 ghost use Rattle.sstable_blocks.specs.Sources.{KeepsSource};
 
 use crate::entry_printer::print_entries_of;

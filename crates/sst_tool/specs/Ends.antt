@@ -1,8 +1,6 @@
 -- Where blocks end, by the index.
 use Rattle.std.specs.Prelude.{ℕ, ◌+◌, ◌-◌, ◌^◌, ◌&&◌, List, Bool, nat_le, nat_lt, if◌then◌else◌, Option, Some, None}
-use Rattle.sst_base.specs.Key.{Key}
-use Rattle.sst_block_core.specs.Window.{count_passed}
-use Rattle.sst_block_core.specs.Handles.{Handle, handles}
+use Rattle.sstable_blocks.specs.Prelude.{Key, count_passed, Handle, handles}
 
 -- the next greater number, if there is one
 abbrev pub above : ℕ → Option ℕ

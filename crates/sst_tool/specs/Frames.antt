@@ -1,7 +1,6 @@
 -- Frames that follow each other.
 use Rattle.std.specs.Prelude.{ℕ, ◌+◌, ◌-◌, ◌^◌, ◌&&◌, min, nat_eq, Bool, true, List, [], ◌∷◌}
-use Rattle.sst_base.specs.BlockHandle.{HandleParts}
-use Rattle.sst_block_core.specs.Handles.{Handle}
+use Rattle.sstable_blocks.specs.Prelude.{HandleParts, Handle}
 use Rattle.sstable_blocks.specs.Opened.{range_of}
 
 -- the offset after a frame; none is greater than a file's

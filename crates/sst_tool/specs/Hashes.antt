@@ -1,8 +1,7 @@
 -- The hash function of a table file.
 use Rattle.std.specs.Prelude.{ℕ, List, is_ok, if◌then◌else◌, Option, Some, None}
-use Rattle.sst_base.specs.Hashes.{poly31}
-use Rattle.sst_base.specs.Header.{header_at}
 use Rattle.xxh3.specs.Xxh3.{xxh3_128}
+use Rattle.sstable_blocks.specs.Prelude.{poly31, header_at}
 use Rattle.sst_tool.specs.declared.hash.TableHash.{TableHash}
 use Rattle.sst_tool.specs.declared.hash.TableHash.TheVariants.{Poly31, Xxh3}
 

@@ -4,9 +4,7 @@ use Rattle.std.specs.Cmp.Lexicographic.{pointwise}
 use Rattle.std.specs.Result.{result_ok}
 use Rattle.std.specs.declared.ops.Bound.TheVariants.{Included}
 use Rattle.hex.specs.Hex.{decode_of}
-use Rattle.sst_base.specs.Entry.{Entry, plain}
-use Rattle.sst_block_core.specs.Entries.{entries}
-use Rattle.sst_block_core.specs.Window.{first_match}
+use Rattle.sstable_blocks.specs.Prelude.{Entry, plain, entries, first_match}
 use Rattle.sstable_blocks.specs.Scans.{KeyRange, within}
 
 -- the key that a word names: the bytes that the hex digits after `hex:` encode, if they are pairs of such, or else the

@@ -1,7 +1,7 @@
 -- The first items of a source.
 use Rattle.std.specs.Prelude.{ℕ, take}
 use Rattle.std.specs.Option.{option_map}
-use Rattle.sst_base.specs.Entry.{Entry}
+use Rattle.sstable_blocks.specs.Prelude.{Entry}
 use Rattle.sst_merge.specs.Sources.{Left}
 
 -- what is left of a source of which so many items are taken at most

@@ -1,6 +1,6 @@
 -- What a merge writes.
 use Rattle.std.specs.Prelude.{ℕ, Bool, List, Option, None}
-use Rattle.sst_base.specs.Entry.{Entry}
+use Rattle.sstable_blocks.specs.Prelude.{Entry}
 use Rattle.sst_merge.specs.Compact.{compacted}
 use Rattle.sst_merge.specs.Merge.{entry_cmp, merged}
 use Rattle.sst_merge.specs.Sources.{Left, all_left, left_as}

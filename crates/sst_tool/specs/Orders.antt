@@ -1,11 +1,8 @@
 -- The order of what a source gives.
 use Rattle.std.specs.Prelude.{◌≡◌, ◌⊎◌, List, Bool, true, Option, Some, None}
 use Rattle.std.specs.Ordering.{is_le}
-use Rattle.sst_base.specs.Entry.{Entry}
-use Rattle.sst_base.specs.Key.{Key}
-use Rattle.sst_base.specs.declared.error.Error.{Error}
-use Rattle.sst_base.specs.declared.error.Error.TheVariants.{BadHandle, Memory, OutOfOrder}
-use Rattle.sst_base.specs.Order.{key_cmp}
+use Rattle.sstable_blocks.specs.Prelude.{Entry, Key, key_cmp}
+use Rattle.sstable_blocks.specs.Results.{Error, BadHandle, Memory, OutOfOrder}
 use Rattle.sst_tool.specs.declared.ordered.Direction.{Direction}
 use Rattle.sst_tool.specs.declared.ordered.Direction.TheVariants.{Forward, Backward}
 

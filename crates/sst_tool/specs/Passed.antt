@@ -1,6 +1,6 @@
 -- Sources that pass on what another one gives.
 use Rattle.std.specs.Prelude.{Option}
-use Rattle.sst_base.specs.declared.error.Error.{Error}
+use Rattle.sstable_blocks.specs.Results.{Error}
 use Rattle.sst_merge.specs.Sources.{Left, step_errors}
 
 -- what is left of a source that passes on what another one has left, where this error ended it, if one did

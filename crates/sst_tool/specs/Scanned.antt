@@ -1,7 +1,7 @@
 -- What is left of a scan of a table whose entries are not known.
 use Rattle.std.specs.Prelude.{ℕ, List, Option, None}
 use Rattle.std.specs.Option.{option_map}
-use Rattle.sst_base.specs.Entry.{Entry}
+use Rattle.sstable_blocks.specs.Prelude.{Entry}
 use Rattle.sst_merge.specs.Sources.{Left}
 use Rattle.sst_merge.specs.Stored.{read_errors}
 use Rattle.sst_parts.specs.AnyScans.{ended_in, left_in, most_in}

@@ -1,6 +1,6 @@
 -- The entries that a scan prints.
 use Rattle.std.specs.Prelude.{ℕ, Option, Some, None}
-use Rattle.sst_base.specs.Entry.{Entry}
+use Rattle.sstable_blocks.specs.Prelude.{Entry}
 use Rattle.sst_merge.specs.Snapshot.{snapshot}
 use Rattle.sst_merge.specs.Sources.{Left, left_as}
 use Rattle.sst_tool.specs.Limits.{limited}

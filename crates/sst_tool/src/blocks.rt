@@ -1,16 +1,18 @@
-//! `blocks` and `index`: a line for each data block.
+//! `blocks` and `index`: a line for each data block, and for each part.
 ghost use Rattle.std.specs.Prelude.{◌≡◌, ◌<◌, length};
 
 use crate::fault::{Cause, Fault, Result, Shown as ShownError, printed};
-use crate::open::open_plain;
+use crate::open::open;
+use crate::place::TableBlock;
 use crate::progress::Progress;
 use crate::show::Shown;
 use crate::words::FILE;
 use clap::ArgMatches;
+use sst_parts::{AnyTable, PartedTable};
 use sstable_blocks::table::index_block::HandleView;
 use sstable_blocks::{
     BlockHandle, BlockHash, DataBlock, EntryView, Error, FileSource, FrameSource, IndexBlock,
-    InternalValue, KeyedBlockHandle, SeekInput, Steps, Table,
+    InternalValue, KeyedBlockHandle, MemorySource, SeekInput, Steps, Table,
 };
 use std::alloc::Global;
 use std::io;
@@ -90,16 +92,12 @@ fn print_sound<O: Write>(output: &mut O, held: &Held) -> io::Result<()> {
 fn print_held<O: Write>(
     output: &mut O,
     number: usize,
-    handle: &BlockHandle,
+    offset: u64,
+    size: u32,
     held: &sstable_blocks::Result<Held>,
     cause: Cause,
 ) -> io::Result<bool> {
-    write!(
-        output,
-        "block {number} at offset {}: {} bytes, ",
-        *handle.offset(),
-        handle.size()
-    )?;
+    write!(output, "block {number} at offset {offset}: {size} bytes, ")?;
     match held {
         Ok(sound) => print_sound(output, sound)?,
         Err(error) => writeln!(output, "{}", ShownError::new(*error, cause))?,
@@ -107,22 +105,25 @@ fn print_held<O: Write>(
     Ok(held.is_ok())
 }
 
-// Prints the line of a block. Returns whether it is sound.
+// Prints the line of a block, of a table that begins at an offset. Returns whether it is sound.
 fn print_line<O: Write>(
     output: &mut O,
     number: usize,
+    begin: u64,
     handle: BlockHandle,
     held: sstable_blocks::Result<Held>,
     cause: Cause,
 ) -> io::Result<bool> {
-    print_held(output, number, &handle, &held, cause)
+    let offset = handle.offset().saturating_add(begin);
+    print_held(output, number, offset, handle.size(), &held, cause)
 }
 
-// Prints the line of a data block of a table. Returns whether it is sound.
+// Prints the line of a data block of a table that begins at an offset. Returns whether it is sound.
 fn print_block<H: BlockHash, S: FrameSource, R, O: Write>(
     progress: &Progress<'_, R>,
     alloc: Global,
     table: &mut Table<H, S>,
+    begin: u64,
     number: usize,
     output: &mut O,
 ) -> io::Result<bool>
@@ -131,19 +132,21 @@ fn print_block<H: BlockHash, S: FrameSource, R, O: Write>(
 {
     let handle = table.index().handle_at(number, &mut Steps::new());
     let held = held_at(alloc, table, number);
-    print_line(output, number, handle, held, progress.cause())
+    print_line(output, number, begin, handle, held, progress.cause())
 }
 
-// Prints a line for each data block of a table. Returns how many are not sound.
+// Prints a line for each data block of a table that begins at an offset. Returns how many are not
+// sound.
 fn print_blocks<H: BlockHash, S: FrameSource, R, O: Write>(
     progress: &Progress<'_, R>,
     alloc: Global,
     table: &mut Table<H, S>,
+    begin: u64,
     output: &mut O,
 ) -> Result<usize> {
     let (mut number, mut failed) = (0usize, 0usize);
     while number < table.index().len() {
-        if !print_block(progress, alloc, table, number, output)? {
+        if !print_block(progress, alloc, table, begin, number, output)? {
             failed = failed.saturating_add(1);
         }
         number += 1;
@@ -161,7 +164,7 @@ fn lines_in<H: BlockHash, F: SeekInput, R, O: Write>(
 ) -> Result<()> {
     let blocks = table.index().len();
     progress.expect_blocks(blocks as u64);
-    match print_blocks(progress, alloc, table, output)? {
+    match print_blocks(progress, alloc, table, 0, output)? {
         0 => Ok(()),
         failed => Err(Fault::of_blocks(alloc, file, failed, blocks)),
     }
@@ -179,12 +182,113 @@ fn blocks_in<H: BlockHash, F: SeekInput + Drop, R, O: Write>(
     lines_in(progress, alloc, file, &mut table, output)
 }
 
+// Prints what a part holds at first: the number of its blocks, or why it is not opened.
+fn print_opened<H: BlockHash, O: Write>(
+    output: &mut O,
+    opened: &sstable_blocks::Result<Table<H, MemorySource>>,
+    cause: Cause,
+) -> io::Result<()> {
+    match opened {
+        Ok(table) => writeln!(output, "{} blocks", table.index().len()),
+        Err(error) => writeln!(output, "{}", ShownError::new(*error, cause)),
+    }
+}
+
+// Prints the lines of the blocks of a part that begins at an offset, if it was opened. Returns
+// whether all are sound.
+fn print_opened_blocks<H: BlockHash, R, O: Write>(
+    progress: &Progress<'_, R>,
+    alloc: Global,
+    opened: sstable_blocks::Result<Table<H, MemorySource>>,
+    begin: u64,
+    output: &mut O,
+) -> Result<bool> {
+    let Ok(table) = opened else {
+        return Ok(false);
+    };
+    let mut table = table;
+    match print_blocks(progress, alloc, &mut table, begin, output)? {
+        0 => Ok(true),
+        _ => Ok(false),
+    }
+}
+
+// Opens the part of a table at an index, which is read whole.
+fn open_part<H: BlockHash, S: FrameSource>(
+    alloc: Global,
+    table: &mut PartedTable<H, S>,
+    number: usize,
+) -> sstable_blocks::Result<Table<H, MemorySource>>
+    requires { number < length table.old.tops }
+    ensures { table.new.tops ≡ table.old.tops }
+{
+    let bytes = table.part_at(alloc, number)?;
+    Ok(Table::open_file(alloc, MemorySource::new(bytes))?)
+}
+
+// Prints a line for the part at an index, and a line for each of its blocks. Returns whether all are
+// sound.
+fn print_part<H: BlockHash, S: FrameSource, R, O: Write>(
+    progress: &Progress<'_, R>,
+    alloc: Global,
+    table: &mut PartedTable<H, S>,
+    number: usize,
+    output: &mut O,
+) -> Result<bool>
+    requires { number < length table.old.tops }
+    ensures { table.new.tops ≡ table.old.tops }
+{
+    let handle = table.index().handle_at(number, &mut Steps::new());
+    let (begin, size) = (*handle.offset(), handle.size());
+    write!(output, "part {number} at offset {begin}: {size} bytes, ")?;
+    let opened = open_part(alloc, table, number);
+    print_opened(output, &opened, progress.cause())?;
+    print_opened_blocks(progress, alloc, opened, begin, output)
+}
+
+// Prints the lines of each part of a table. Returns how many are not sound.
+fn print_parts<H: BlockHash, S: FrameSource, R, O: Write>(
+    progress: &Progress<'_, R>,
+    alloc: Global,
+    table: &mut PartedTable<H, S>,
+    output: &mut O,
+) -> Result<usize> {
+    let (mut number, mut failed) = (0usize, 0usize);
+    while number < table.index().len() {
+        if !print_part(progress, alloc, table, number, output)? {
+            failed = failed.saturating_add(1);
+        }
+        number += 1;
+    }
+    Ok(failed)
+}
+
+// Prints the lines of each part of a table of a file.
+fn parts_in<H: BlockHash, F: SeekInput + Drop, R, O: Write>(
+    progress: &Progress<'_, R>,
+    alloc: Global,
+    file: &str,
+    table: PartedTable<H, FileSource<F>>,
+    output: &mut O,
+) -> Result<()> {
+    let mut table = table;
+    let parts = table.index().len();
+    progress.expect_blocks(parts as u64);
+    match print_parts(progress, alloc, &mut table, output)? {
+        0 => Ok(()),
+        failed => Err(Fault::of_parts(alloc, file, failed, parts)),
+    }
+}
+
 /// Prints a line for each data block: its number, offset and size, and the number of its entries
-/// with the first and the last key, or why it is not sound. Goes on after that.
+/// with the first and the last key, or why it is not sound. Goes on after that. Of a parted table
+/// a line for each part stands before those of its blocks: its number, offset and size, and the
+/// number of its blocks, or why it is not opened.
 ///
 /// # Errors
 ///
-/// Those of the file, of its filter and its index, how many blocks are not sound, `Fault::Output`.
+/// Those of the file, of its filter and its index, or of the index of its parts; how many blocks or
+/// parts are not sound; `Fault::Output`.
 pub fn run<H: BlockHash, R: Files + Clock + Eprint, O: Write>(
     progress: &Progress<'_, R>,
     alloc: Global,
@@ -192,21 +296,21 @@ pub fn run<H: BlockHash, R: Files + Clock + Eprint, O: Write>(
     output: &mut O,
 ) -> Result<()> {
     let file = words.get_str(FILE).unwrap_or("");
-    match open_plain::<H, R>(progress, alloc, file) {
-        Ok(table) => blocks_in(progress, alloc, file, table, output),
-        Err(fault) => Err(fault),
+    match open::<H, R>(progress, alloc, file)? {
+        AnyTable::Plain(table) => blocks_in(progress, alloc, file, table, output),
+        AnyTable::Parted(table) => parts_in(progress, alloc, file, table, output),
     }
 }
 
-// Prints the line of a handle.
+// Prints the line of a handle of a block or a part.
 fn print_handle<O: Write>(
     output: &mut O,
-    number: usize,
+    named: TableBlock,
     handle: &KeyedBlockHandle,
 ) -> io::Result<()> {
     writeln!(
         output,
-        "block {number} at offset {}: {} bytes, up to {} at {}",
+        "{named} at offset {}: {} bytes, up to {} at {}",
         handle.offset().0,
         handle.size(),
         Shown(handle.end_key().as_slice()),
@@ -218,47 +322,65 @@ fn print_handle<O: Write>(
 fn print_view<O: Write>(
     alloc: Global,
     output: &mut O,
-    number: usize,
+    named: TableBlock,
     view: &HandleView<'_>,
 ) -> Result<()> {
     match view.to_handle(alloc) {
-        Ok(handle) => printed(print_handle(output, number, &handle)),
+        Ok(handle) => printed(print_handle(output, named, &handle)),
         Err(_) => Err(Fault::Memory),
     }
 }
 
-// Prints a line for each handle.
-fn print_handles<O: Write>(alloc: Global, index: &IndexBlock, output: &mut O) -> Result<()> {
+// The block, or where there are parts the part, of a number.
+fn named_as(is_parted: bool, number: usize) -> TableBlock {
+    if is_parted {
+        TableBlock::Part(number)
+    } else {
+        TableBlock::Data(number)
+    }
+}
+
+// Prints a line for each handle, of blocks or of parts.
+fn print_handles<O: Write>(
+    alloc: Global,
+    index: &IndexBlock,
+    is_parted: bool,
+    output: &mut O,
+) -> Result<()> {
     let mut number = 0usize;
     for view in index.by_ref().handles() {
-        print_view(alloc, output, number, &view)?;
+        print_view(alloc, output, named_as(is_parted, number), &view)?;
         number = number.saturating_add(1);
     }
     Ok(())
 }
 
 // Prints a line for each handle of the index of a table of a file.
-fn index_in<H: BlockHash, F: SeekInput + Drop, O: Write>(
+fn index_in<H: BlockHash, S: FrameSource + Drop, O: Write>(
     alloc: Global,
-    table: Table<H, FileSource<F>>,
+    table: AnyTable<H, S>,
     output: &mut O,
 ) -> Result<()> {
-    print_handles(alloc, table.index(), output)
+    let is_parted = match &table {
+        AnyTable::Plain(_) => false,
+        AnyTable::Parted(_) => true,
+    };
+    print_handles(alloc, table.index(), is_parted, output)
 }
 
-/// Prints a line for each data block that the index names, and reads none: its number, offset and
-/// size, its last key and the sequence number there.
+/// Prints a line for each data block that the index names, or each part that the index of the parts
+/// names, and reads none: its number, offset and size, its last key and the sequence number there.
 ///
 /// # Errors
 ///
-/// Those of the file, of its filter and its index, and `Fault::Output`.
+/// Those of the file, of its filter and its index, or of the index of its parts, and `Fault::Output`.
 pub fn run_index<H: BlockHash, R: Files + Clock + Eprint, O: Write>(
     progress: &Progress<'_, R>,
     alloc: Global,
     words: &ArgMatches<'_>,
     output: &mut O,
 ) -> Result<()> {
-    match open_plain::<H, R>(progress, alloc, words.get_str(FILE).unwrap_or("")) {
+    match open::<H, R>(progress, alloc, words.get_str(FILE).unwrap_or("")) {
         Ok(table) => index_in(alloc, table, output),
         Err(fault) => Err(fault),
     }

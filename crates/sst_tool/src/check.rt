@@ -1,17 +1,20 @@
-//! `check`: whether files are sound tables.
+//! `check`: whether files are sound tables, plain or parted.
 use crate::fault::{Fault, Result, printed};
 use crate::hash::{TableHash, hash_in, hash_of_file};
 use crate::open::source_of;
+use crate::parted::{check_parts, is_parted, open_parts, test_filters};
 use crate::progress::Progress;
 use crate::tidy::{Gap, Gaps};
 use crate::whole::{check_whole, handles_of};
 use crate::words::FILE;
 use clap::ArgMatches;
-use sstable_blocks::{BlockHash, FileSource, Poly31, RunSummary, SeekInput, Xxh3};
+use sstable_blocks::{
+    BlockHash, FileSource, FrameSource, Poly31, RunHandles, RunSummary, SeekInput, Xxh3,
+};
 use std::alloc::Global;
-use std::io;
 use std::io::Write;
 use std::rt::{Clock, Files};
+use std::{fmt, io};
 
 // Warns of bytes that belong to no frame.
 fn warn_of<R: Eprint>(rt: &R, file: &str, gap: Gap) {
@@ -27,15 +30,83 @@ fn warn_of_all<R: Eprint>(rt: &R, file: &str, gaps: &Gaps) {
     }
 }
 
-// Checks a table of a file whole.
-fn check_in<H: BlockHash, F: SeekInput, R: Clock + Eprint>(
+// What a check of a file counted; the number of parts, if it is in parts.
+#[derive(Drop)]
+struct Checked {
+    parts: Option<usize>,
+    whole: RunSummary,
+}
+
+impl fmt::Display for Checked {
+    fn fmt<W: fmt::Write>(&self, f: &mut fmt::Formatter<W>) -> fmt::Result {
+        if let Some(parts) = self.parts {
+            write!(f, "{parts} parts ")?;
+        }
+        let (blocks, entries) = (self.whole.blocks, self.whole.entries);
+        write!(f, "{blocks} blocks {entries} entries")
+    }
+}
+
+// Checks a plain table of a file whole.
+fn check_plain<H: BlockHash, S: FrameSource, R: Clock + Eprint>(
     progress: &Progress<'_, R>,
     alloc: Global,
     file: &str,
-    source: &mut FileSource<F>,
-) -> Result<RunSummary> {
-    let handles = handles_of(progress, alloc, file, source)?;
-    let checked = check_whole::<H, _, R>(progress, alloc, file, source, &handles);
+    source: &mut S,
+    handles: &RunHandles,
+) -> Result<Checked> {
+    match check_whole::<H, S, R>(progress, alloc, file, source, handles) {
+        Ok(whole) => Ok(Checked { parts: None, whole }),
+        Err(fault) => Err(fault),
+    }
+}
+
+// Checks a parted table of a file whole.
+fn check_parted<H: BlockHash, S: FrameSource + Drop, R: Clock + Eprint>(
+    progress: &Progress<'_, R>,
+    alloc: Global,
+    file: &str,
+    source: S,
+    handles: &RunHandles,
+) -> Result<Checked> {
+    let mut source = source;
+    test_filters::<H, S, R>(progress, alloc, file, &mut source, handles)?;
+    let mut table = open_parts::<H, S, R>(progress, alloc, file, source, handles)?;
+    match check_parts(progress, alloc, file, &mut table) {
+        Ok(summary) => Ok(Checked {
+            parts: Some(summary.parts),
+            whole: summary.whole,
+        }),
+        Err(fault) => Err(fault),
+    }
+}
+
+// Checks a table of a file whole, by its footer.
+fn check_by<H: BlockHash, S: FrameSource + Drop, R: Clock + Eprint>(
+    progress: &Progress<'_, R>,
+    alloc: Global,
+    file: &str,
+    source: S,
+    handles: &RunHandles,
+) -> Result<Checked> {
+    let mut source = source;
+    if is_parted::<H, S>(alloc, &mut source, handles) {
+        check_parted::<H, S, R>(progress, alloc, file, source, handles)
+    } else {
+        check_plain::<H, S, R>(progress, alloc, file, &mut source, handles)
+    }
+}
+
+// Checks a table of a file whole.
+fn check_in<H: BlockHash, F: SeekInput + Drop, R: Clock + Eprint>(
+    progress: &Progress<'_, R>,
+    alloc: Global,
+    file: &str,
+    source: FileSource<F>,
+) -> Result<Checked> {
+    let mut source = source;
+    let handles = handles_of(progress, alloc, file, &mut source)?;
+    let checked = check_by::<H, _, R>(progress, alloc, file, source, &handles);
     progress.clear();
     if checked.is_ok() {
         let gaps = Gaps::new(progress.block_end(), &handles, progress.file_len());
@@ -49,9 +120,9 @@ fn check_as<H: BlockHash, R: Files + Clock + Eprint>(
     progress: &Progress<'_, R>,
     alloc: Global,
     file: &str,
-) -> Result<RunSummary> {
-    let mut source = source_of(progress, alloc, file)?;
-    check_in::<H, _, R>(progress, alloc, file, &mut source)
+) -> Result<Checked> {
+    let source = source_of(progress, alloc, file)?;
+    check_in::<H, _, R>(progress, alloc, file, source)
 }
 
 // Checks a table file whole, of this hash function, or else of that which it shows.
@@ -60,7 +131,7 @@ fn check_file<R: Files + Clock + Eprint>(
     alloc: Global,
     file: &str,
     hash: Option<TableHash>,
-) -> Result<RunSummary> {
+) -> Result<Checked> {
     let hash = match hash {
         Some(hash) => hash,
         None => hash_of_file(progress.rt(), alloc, file)?,
@@ -75,13 +146,12 @@ fn check_file<R: Files + Clock + Eprint>(
 fn print<R: Eprint, O: Write>(
     progress: &Progress<'_, R>,
     file: &str,
-    checked: &Result<RunSummary>,
+    checked: &Result<Checked>,
     output: &mut O,
 ) -> Result<bool> {
     match checked {
-        Ok(summary) => {
-            let (blocks, entries) = (summary.blocks, summary.entries);
-            writeln!(output, "{file}: ok {blocks} blocks {entries} entries")?;
+        Ok(checked) => {
+            writeln!(output, "{file}: ok {checked}")?;
             Ok(true)
         }
         Err(fault) => {
@@ -125,13 +195,12 @@ fn check_all<R: Files + Clock + Eprint, O: Write>(
 }
 
 // Prints the line of the only file, which is sound.
-fn print_sound<O: Write>(summary: &RunSummary, output: &mut O) -> io::Result<()> {
-    let (blocks, entries) = (summary.blocks, summary.entries);
-    writeln!(output, "ok {blocks} blocks {entries} entries")
+fn print_sound<O: Write>(checked: &Checked, output: &mut O) -> io::Result<()> {
+    writeln!(output, "ok {checked}")
 }
 
 /// Checks table files whole: each block, the order across blocks, end keys, the filter. Prints the
-/// numbers of blocks and entries; of several files a line each, also after one that fails. Warns of
+/// numbers of blocks and entries, of a parted table that of parts too; of several files a line each, also after one that fails. Warns of
 /// bytes of a file that belong to no frame.
 ///
 /// # Errors
@@ -150,7 +219,7 @@ pub fn run<R: Files + Clock + Eprint, O: Write>(
         return check_all(progress, alloc, files, hash, output);
     };
     match check_file(progress, alloc, file, hash) {
-        Ok(summary) => printed(print_sound(&summary, output)),
+        Ok(checked) => printed(print_sound(&checked, output)),
         Err(fault) => Err(fault),
     }
 }

@@ -183,6 +183,11 @@ impl Fault {
         Fault::with_text(format!(in alloc; "{name}: {failed} of {blocks} blocks failed"))
     }
 
+    /// Returns the fault of a table of which some parts failed.
+    pub fn of_parts(alloc: Global, name: &str, failed: usize, parts: usize) -> Fault {
+        Fault::with_text(format!(in alloc; "{name}: {failed} of {parts} parts failed"))
+    }
+
     /// Returns the fault of a filter at an offset that claims too many probes for so many entries.
     pub fn of_filter(alloc: Global, name: &str, at: u64, claim: Claim, count: u64) -> Fault {
         let Claim { probes, bits } = claim;

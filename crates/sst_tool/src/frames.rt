@@ -1,7 +1,7 @@
 //! Data blocks of a file, found without its index: by their headers.
 ghost use Rattle.std.specs.Prelude.{◌≤◌, ◌<◌, IfOk};
 
-use sst_base::table::block::header::HEADER_LEN;
+use sstable_blocks::table::block::header::HEADER_LEN;
 use sstable_blocks::{
     BlockHandle, BlockHash, BlockOffset, BlockType, Error, FrameSource, Header, Result, SizedSource,
 };

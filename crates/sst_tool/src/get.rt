@@ -1,8 +1,8 @@
 //! `get`: the newest version of a key.
 ghost use Rattle.std.specs.Prelude.{◌≡◌, List, map, slice_get, IfOk, IfSome};
-ghost use Rattle.sst_base.specs.Entry.{Entry, plain};
 ghost use Rattle.sst_parts.specs.AnyTables.{HasEntries, source_in};
 ghost use Rattle.sst_tool.specs.Keys.{only_key, read_of};
+ghost use Rattle.sstable_blocks.specs.Prelude.{Entry, plain};
 ghost use Rattle.sstable_blocks.specs.RunReading.{hashes};
 ghost use Rattle.sstable_blocks.specs.Scans.{within};
 

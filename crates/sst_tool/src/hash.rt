@@ -1,12 +1,12 @@
 //! The hash functions of table files.
 ghost use Rattle.std.specs.Prelude.{◌≡◌, is_ok};
-ghost use Rattle.sst_base.specs.Header.{header_at};
 ghost use Rattle.sst_tool.specs.Hashes.{hash_shown};
+ghost use Rattle.sstable_blocks.specs.Prelude.{header_at};
 
 use crate::fault::{Fault, Result};
 use crate::words::{FILE, HASH, MERGE};
 use clap::ArgMatches;
-use sst_base::table::block::header::HEADER_LEN;
+use sstable_blocks::table::block::header::HEADER_LEN;
 use sstable_blocks::{BlockHash, Header, Poly31, Xxh3};
 use std::alloc::Global;
 use std::io::Read;

@@ -18,6 +18,7 @@ mod new_tables;
 mod observed;
 mod open;
 mod ordered;
+mod parted;
 mod place;
 mod probes;
 mod progress;

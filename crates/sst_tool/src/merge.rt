@@ -240,9 +240,9 @@ fn merge_into<'p, H: BlockHash, N: BlockHash, R: LockFiles + Clock + Eprint>(
 /// Merges tables, the newest first, into one, or with `--table-size` into several of this size,
 /// which are put under their names when all are whole. With `--snapshot`, which may be given several
 /// times, only versions stay that a read at one of these sequence numbers, or at or above all of them,
-/// sees, with `--latest` of each key the newest; with
-/// `--bottom` no tombstones of these; with `--hash` the new tables have this hash function;
-/// `--block`, `--interval` and `--bits` say how they are cut and encoded.
+/// sees, with `--latest` of each key the newest; with `--bottom` no tombstones of these that hide
+/// nothing; with `--hash` the new tables have this hash function; `--block`, `--interval` and
+/// `--bits` say how they are cut and encoded.
 ///
 /// # Errors
 ///

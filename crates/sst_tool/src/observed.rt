@@ -2,12 +2,17 @@
 ghost use Rattle.std.specs.Prelude.{◌≡◌, ◌+◌, min, max};
 
 use crate::place::{TableBlock, footer_block_at};
-use sst_base::table::block::header::HEADER_LEN;
-use sst_block_core::table::block::trailer::{TRAILER_SIZE, Trailer};
-use sst_block_core::table::data_block::{DataBlockRef, EntryView};
 use sstable_blocks::filter::standard_bloom::StandardBloomFilterReader;
-use sstable_blocks::{BlockHandle, BlockHash, FrameSource, Result, RunHandles, Slice};
+use sstable_blocks::run::check;
+use sstable_blocks::run::footer::read_table_footer;
+use sstable_blocks::table::block::header::HEADER_LEN;
+use sstable_blocks::table::block::trailer::{TRAILER_SIZE, Trailer};
+use sstable_blocks::table::data_block::DataBlockRef;
+use sstable_blocks::{
+    BlockHandle, BlockHash, EntryView, FrameSource, MemorySource, Result, RunHandles, Slice,
+};
 use std::alloc::Global;
+use std::cell::Cell;
 use std::fmt;
 use std::marker::PhantomData;
 
@@ -40,6 +45,18 @@ impl Lengths {
         self.sum = self.sum.saturating_add(len as u64);
         self.least = self.least.min(len);
         self.greatest = self.greatest.max(len);
+    }
+}
+
+impl Lengths {
+    // Adds those of some more.
+    fn add_all(&mut self, others: &Lengths)
+        ensures least { self.new.least ≡ min self.old.least others.now.least }
+        ensures greatest { self.new.greatest ≡ max self.old.greatest others.now.greatest }
+    {
+        self.sum = self.sum.saturating_add(others.sum);
+        self.least = self.least.min(others.least);
+        self.greatest = self.greatest.max(others.greatest);
     }
 }
 
@@ -91,8 +108,12 @@ pub struct Seen {
     pub blocks: Blocks,
     /// The restart interval of the index.
     pub index_interval: u8,
-    /// What the filter has, if there is one.
+    /// What the filter has, if there is one; of a parted table the filters of its parts.
     pub bits: Option<Bits>,
+    /// The length of the index in bytes, with those of the parts, if there are some.
+    pub index_len: u64,
+    /// The length of the filter in bytes, or of those of the parts.
+    pub filter_len: u64,
     /// Whether a block was seen in part, since there was no memory.
     pub is_partial: bool,
 }
@@ -154,6 +175,17 @@ impl Blocks {
         }
     }
 
+    // Adds those of a part.
+    fn add_all(&mut self, others: &Blocks) {
+        self.least_interval = self.least_interval.min(others.least_interval);
+        self.greatest_interval = self.greatest_interval.max(others.greatest_interval);
+        self.buckets = self.buckets.saturating_add(others.buckets);
+        self.longest = self.longest.max(others.longest);
+        self.tombstones = self.tombstones.saturating_add(others.tombstones);
+        self.keys.add_all(&others.keys);
+        self.values.add_all(&others.values);
+    }
+
     // Adds the entries of a block.
     fn add_entries<H: BlockHash>(&mut self, block: &DataBlockRef<'_, H>) {
         for entry in block.entries() {
@@ -162,15 +194,49 @@ impl Blocks {
     }
 }
 
+// What two filters have in all, and the greatest number of probes.
+fn both(one: Option<Bits>, other: Option<Bits>) -> Option<Bits> {
+    match (one, other) {
+        (Some(a), Some(b)) => Some(Bits {
+            bits: a.bits.saturating_add(b.bits),
+            set: a.set.saturating_add(b.set),
+            probes: a.probes.max(b.probes),
+        }),
+        (None, filter) | (filter, None) => filter,
+    }
+}
+
 impl Seen {
-    // Nothing.
-    fn none() -> Seen {
+    /// Nothing.
+    pub fn none() -> Seen {
         Seen {
             blocks: Blocks::none(),
             index_interval: 0,
             bits: None,
+            index_len: 0,
+            filter_len: 0,
             is_partial: false,
         }
+    }
+
+    // Adds the frames of index and filter of a run.
+    fn add_handles(&mut self, handles: &RunHandles) {
+        self.index_len = self
+            .index_len
+            .saturating_add(u64::from(handles.index.size()));
+        if let Some(filter) = &handles.filter {
+            self.filter_len = self.filter_len.saturating_add(u64::from(filter.size()));
+        }
+    }
+
+    // Adds what was seen of a part.
+    fn add_part(&mut self, part: &Seen) {
+        self.blocks.add_all(&part.blocks);
+        self.index_interval = self.index_interval.max(part.index_interval);
+        self.bits = both(self.bits, part.bits);
+        self.index_len = self.index_len.saturating_add(part.index_len);
+        self.filter_len = self.filter_len.saturating_add(part.filter_len);
+        self.is_partial = self.is_partial || part.is_partial;
     }
 
     // Adds a data block. One that fails here fails the check too, unless there was no memory.
@@ -214,10 +280,12 @@ pub struct Observed<H: BlockHash, S> {
 impl<H: BlockHash, S> Observed<H, S> {
     /// Reads from a source, whose index and filter are there.
     pub fn new(source: S, handles: RunHandles) -> Observed<H, S> {
+        let mut seen = Seen::none();
+        seen.add_handles(&handles);
         Observed {
             source,
             handles,
-            seen: Seen::none(),
+            seen,
             hash: PhantomData,
         }
     }
@@ -246,6 +314,80 @@ impl<H: BlockHash, S: FrameSource> FrameSource for Observed<H, S> {
         if let Ok(frame) = &frame {
             let block = footer_block_at(&self.handles, *handle.offset());
             self.seen.add_frame::<H>(alloc, block, frame.as_slice());
+        }
+        frame
+    }
+}
+
+// What the blocks of a part have, which is checked.
+fn seen_in<H: BlockHash>(alloc: Global, file: Slice) -> Result<Seen> {
+    let mut source = MemorySource::new(file);
+    let handles = read_table_footer(alloc, &mut source)?;
+    let mut observed = Observed::<H, MemorySource>::new(source, handles);
+    check::<H, _>(alloc, &mut observed, &handles)?;
+    Ok(*observed.seen())
+}
+
+// The same of bytes that stay.
+fn seen_of<H: BlockHash>(alloc: Global, file: &Slice) -> Result<Seen> {
+    let file = file.clone()?;
+    seen_in::<H>(alloc, file)
+}
+
+/// The parts of a table, of which is seen what their blocks have as a check reads them: each is
+/// checked once more for it.
+#[derive(Drop)]
+pub struct ObservedParts<'s, H: BlockHash, S> {
+    source: S,
+    top: BlockHandle,
+    seen: &'s Cell<Seen>,
+    hash: PhantomData<H>,
+}
+
+impl<'s, H: BlockHash, S> ObservedParts<'s, H, S> {
+    /// Reads from a source, whose index of parts is there; what is seen is added in `seen`.
+    pub fn new(source: S, top: BlockHandle, seen: &'s Cell<Seen>) -> ObservedParts<'s, H, S> {
+        ObservedParts {
+            source,
+            top,
+            seen,
+            hash: PhantomData,
+        }
+    }
+
+    // Adds the frame of the index of the parts, or the bytes of a part. A part that fails here fails
+    // the check too, unless there was no memory.
+    fn add(&self, alloc: Global, handle: &BlockHandle, frame: &Slice) {
+        let mut seen = self.seen.get();
+        if handle.offset() == self.top.offset() {
+            seen.index_len = seen.index_len.saturating_add(u64::from(handle.size()));
+        } else {
+            match seen_of::<H>(alloc, frame) {
+                Ok(part) => seen.add_part(&part),
+                Err(_) => seen.is_partial = true,
+            }
+        }
+        self.seen.set(seen);
+    }
+}
+
+impl<'s, H: BlockHash, S: FrameSource> FrameSource for ObservedParts<'s, H, S> {
+    ghost bytes = { λ o. S.bytes o.source };
+
+    ghost failures = { λ o. S.failures o.source };
+
+    ghost reads = { λ o. S.reads o.source };
+
+    ghost is_reliable = { λ o. S.is_reliable o.source };
+
+    ghost may_refuse = { λ o h. S.may_refuse o.source h };
+
+    ghost may_truncate = { λ o h. S.may_truncate o.source h };
+
+    fn read_frame(&mut self, alloc: Global, handle: &BlockHandle) -> Result<Slice> {
+        let frame = self.source.read_frame(alloc, handle);
+        if let Ok(frame) = &frame {
+            self.add(alloc, handle, frame);
         }
         frame
     }

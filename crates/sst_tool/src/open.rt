@@ -5,10 +5,10 @@ use crate::progress::Progress;
 use crate::tidy::first_astray;
 use sst_parts::AnyTable;
 use sst_program::table::TableFile;
-use sstable_blocks::run::footer::read_footer;
+use sstable_blocks::run::footer::read_table_footer;
 use sstable_blocks::{
     BlockHash, Error, FileSource, IndexBlock, Input, OpenError, SeekInput, SizedSource, Steps,
-    Table, append_exact,
+    append_exact,
 };
 use std::alloc::Global;
 use std::io::{Read, Seek, SeekFrom};
@@ -67,13 +67,9 @@ impl<'p, R: Files + Clock + Eprint> SeekInput for CountedFile<'p, R> {
 /// A table in a file, plain or parted.
 pub type FileTable<'p, H, R> = AnyTable<H, FileSource<CountedFile<'p, R>>>;
 
-/// A plain table in a file.
-pub type PlainTable<'p, H, R> = Table<H, FileSource<CountedFile<'p, R>>>;
-
 // The block at an offset of a file that is not opened, by its footer.
 fn block_at<S: SizedSource>(alloc: Global, source: &mut S, offset: u64) -> Option<TableBlock> {
-    let len = source.byte_len().ok()?;
-    let handles = read_footer(alloc, source, len).ok()?;
+    let handles = read_table_footer(alloc, source).ok()?;
     footer_block_at(&handles, offset)
 }
 
@@ -145,20 +141,6 @@ pub fn open<'p, H: BlockHash, R: Files + Clock + Eprint>(
 ) -> Result<FileTable<'p, H, R>> {
     let source = source_of(progress, alloc, name)?;
     opened(progress, alloc, name, AnyTable::open_file(alloc, source))
-}
-
-/// Opens a plain table file: reads its footer, filter and index.
-///
-/// # Errors
-///
-/// Those of the library, with the file's name and the block that was read last.
-pub fn open_plain<'p, H: BlockHash, R: Files + Clock + Eprint>(
-    progress: &'p Progress<'p, R>,
-    alloc: Global,
-    name: &str,
-) -> Result<PlainTable<'p, H, R>> {
-    let source = source_of(progress, alloc, name)?;
-    opened(progress, alloc, name, Table::open_file(alloc, source))
 }
 
 /// Tests by the index of a table that the frames of its blocks follow each other, as those do that

@@ -11,6 +11,8 @@ pub enum TableBlock {
     Index,
     /// The filter.
     Filter,
+    /// A part of a parted table, by its index.
+    Part(usize),
 }
 
 impl fmt::Display for TableBlock {
@@ -19,6 +21,7 @@ impl fmt::Display for TableBlock {
             TableBlock::Data(index) => write!(f, "block {index}"),
             TableBlock::Index => f.write_str("index"),
             TableBlock::Filter => f.write_str("filter"),
+            TableBlock::Part(index) => write!(f, "part {index}"),
         }
     }
 }

@@ -4,7 +4,7 @@ ghost use Rattle.byteorder.specs.Endian.{little_number};
 ghost use Rattle.sst_tool.specs.Probes.{may_ask};
 
 use byteorder::{ByteOrder, LittleEndian};
-use sst_base::table::block::header::HEADER_LEN;
+use sstable_blocks::table::block::header::HEADER_LEN;
 use sstable_blocks::{BlockHandle, BlockOffset, FrameSource, Result, Slice};
 use std::alloc::Global;
 

@@ -11,12 +11,12 @@ use crate::merged::count;
 use crate::new_tables::NewTables;
 use crate::open::source_of;
 use crate::progress::Progress;
-use crate::whole::footer_of;
 use crate::words::{FILE, OUT};
 use clap::ArgMatches;
-use sst_block_core::table::data_block::IntoEntries;
 use sst_merge::{Source, keep_error};
 use sstable_blocks::run::checked::{data_block_from, index_block_from};
+use sstable_blocks::run::footer::read_table_footer;
+use sstable_blocks::table::data_block::IntoEntries;
 use sstable_blocks::{
     BlockHandle, BlockHash, DataBlock, Error, FileSource, FrameSource, IndexBlock, InternalValue,
     LockFiles, SeekInput, SizedSource,
@@ -218,7 +218,7 @@ fn add_by_index<H: BlockHash, S: SizedSource>(
     longest: &LongestKey,
     frames: &mut Vec<BlockHandle>,
 ) -> sstable_blocks::Result<()> {
-    let handles = footer_of(alloc, source)?;
+    let handles = read_table_footer(alloc, source)?;
     match index_block_from::<H, S>(alloc, source, &handles.index) {
         Ok(index) => {
             longest.see(&index);

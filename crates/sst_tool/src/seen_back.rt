@@ -2,8 +2,8 @@
 ghost use Rattle.std.specs.Prelude.{◌≡◌, ◌+◌, ◌≤◌, if◌then◌else◌, None, Some};
 ghost use Rattle.std.specs.Prelude.{IfErr, IfOk, OnOk};
 ghost use Rattle.sst_merge.specs.Sources.{MayGive, MeetsNoMore, step_errors};
-ghost use Rattle.sst_base.specs.Counted.{found_item};
 ghost use Rattle.sst_tool.specs.Back.{is_same_key, newest_below};
+ghost use Rattle.sstable_blocks.specs.Prelude.{found_item};
 
 use sst_merge::{Source, keep_error};
 use sstable_blocks::{Error, InternalValue, Result, SeqNo};

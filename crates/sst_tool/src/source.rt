@@ -7,9 +7,9 @@ ghost use Rattle.sstable_blocks.specs.RunReading.{hashes};
 ghost use Rattle.sst_tool.specs.Ends.{above, is_end_at};
 
 use crate::ordered::{Direction, InBlocks};
-use sst_block_core::table::block::bound::Bound as SeekBound;
 use sst_merge::Source;
 use sst_parts::AnyScan;
+use sstable_blocks::table::block::bound::Bound as SeekBound;
 use sstable_blocks::{
     BlockHash, FrameSource, IndexBlock, InternalKey, InternalValue, Result, SeqNo, Steps,
 };

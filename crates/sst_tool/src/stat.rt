@@ -1,8 +1,9 @@
 //! `stat`: what a table holds.
 use crate::fault::{Fault, Result, printed};
 use crate::hash::TableHash;
-use crate::observed::{Bits, Observed, Seen};
+use crate::observed::{Bits, Observed, ObservedParts, Seen};
 use crate::open::source_of;
+use crate::parted::{check_parts, is_parted, open_parts, test_filters};
 use crate::progress::Progress;
 use crate::show::{Hex, Shown};
 use crate::tidy::Gaps;
@@ -12,6 +13,7 @@ use clap::ArgMatches;
 use sstable_blocks::run::footer::FOOTER_LEN;
 use sstable_blocks::{BlockHash, FileSource, FrameSource, RunHandles, RunSummary, SeekInput};
 use std::alloc::Global;
+use std::cell::Cell;
 use std::io;
 use std::io::Write;
 use std::rt::{Clock, Files};
@@ -20,29 +22,28 @@ use std::rt::{Clock, Files};
 #[derive(Drop)]
 struct Stat {
     hash: TableHash,
+    // The number of parts, if it is in parts.
+    parts: Option<usize>,
     summary: RunSummary,
     seen: Seen,
-    handles: RunHandles,
     file_len: u64,
     gaps: Gaps,
 }
 
 impl Stat {
-    // The length of the filter's frame in bytes.
-    fn filter_len(&self) -> u64 {
-        match &self.handles.filter {
-            Some(handle) => u64::from(handle.size()),
-            None => 0,
-        }
+    // The length of the footers in bytes: the file's, and one of each part.
+    fn footers_len(&self) -> u64 {
+        let footers = self.parts.unwrap_or(0).saturating_add(1);
+        (footers as u64).saturating_mul(FOOTER_LEN as u64)
     }
 
     // The length of the frames of the data blocks in bytes: of all that is nothing else.
     fn blocks_len(&self) -> u64 {
         self.file_len
-            .saturating_sub(u64::from(self.handles.index.size()))
-            .saturating_sub(self.filter_len())
+            .saturating_sub(self.seen.index_len)
+            .saturating_sub(self.seen.filter_len)
             .saturating_sub(self.gaps.byte_len())
-            .saturating_sub(FOOTER_LEN as u64)
+            .saturating_sub(self.footers_len())
     }
 
     // Prints what the table has, as lines or as JSON.
@@ -80,13 +81,14 @@ impl Stat {
     fn print_bytes<O: Write>(&self, output: &mut O) -> io::Result<()> {
         writeln!(
             output,
-            "bytes      {}: {} of blocks, {} of index, {} of filter, {FOOTER_LEN} of footer\n\
+            "bytes      {}: {} of blocks, {} of index, {} of filter, {} of footer\n\
             in none    {} bytes belong to no block\n\
             longest    {} bytes of payload",
             self.file_len,
             self.blocks_len(),
-            self.handles.index.size(),
-            self.filter_len(),
+            self.seen.index_len,
+            self.seen.filter_len,
+            self.footers_len(),
             self.gaps.byte_len(),
             self.seen.blocks.longest
         )
@@ -95,17 +97,19 @@ impl Stat {
     // Prints the lines of the hash function and of the entries.
     fn print_entries<O: Write>(&self, output: &mut O) -> io::Result<()> {
         let (summary, blocks) = (&self.summary, &self.seen.blocks);
+        writeln!(output, "hash       {}", self.hash)?;
+        if let Some(parts) = self.parts {
+            writeln!(output, "parts      {parts}")?;
+        }
         writeln!(
             output,
-            "hash       {}\n\
-            blocks     {}\n\
+            "blocks     {}\n\
             entries    {}\n\
             tombstones {}\n\
             keys       {} to {}\n\
             seqnos     {} to {}\n\
             key size   {}\n\
             value size {}",
-            self.hash,
             summary.blocks,
             summary.entries,
             blocks.tombstones,
@@ -148,8 +152,8 @@ impl Stat {
             \"unused_bytes\":{},\"bytes\":{}}}",
             self.seen.blocks.buckets,
             self.seen.blocks.longest,
-            self.handles.index.size(),
-            self.filter_len(),
+            self.seen.index_len,
+            self.seen.filter_len,
             self.gaps.byte_len(),
             self.file_len
         )
@@ -194,11 +198,15 @@ impl Stat {
     // Prints the first members of the line of JSON: those of the entries.
     fn print_entries_json<O: Write>(&self, output: &mut O) -> io::Result<()> {
         let summary = &self.summary;
+        write!(output, "{{\"hash\":\"{}\",\"parts\":", self.hash)?;
+        match self.parts {
+            Some(parts) => write!(output, "{parts}")?,
+            None => output.write_all(b"null")?,
+        }
         write!(
             output,
-            "{{\"hash\":\"{}\",\"blocks\":{},\"entries\":{},\"first_key\":\"{}\",\"last_key\":\"{}\",\
+            ",\"blocks\":{},\"entries\":{},\"first_key\":\"{}\",\"last_key\":\"{}\",\
             \"least_seqno\":{},\"greatest_seqno\":{}",
-            self.hash,
             summary.blocks,
             summary.entries,
             Hex(summary.first_key.as_slice()),
@@ -209,13 +217,20 @@ impl Stat {
     }
 }
 
+// What was counted of a table that was checked whole, with the number of parts, if it is in parts.
+#[derive(Drop)]
+struct Counted {
+    parts: Option<usize>,
+    summary: RunSummary,
+}
+
 // What a table has that was checked whole, and seen as it was.
 fn stat_of<R>(
     progress: &Progress<'_, R>,
     hash: TableHash,
-    handles: RunHandles,
+    handles: &RunHandles,
     seen: &Seen,
-    summary: RunSummary,
+    counted: Counted,
 ) -> Result<Stat> {
     if seen.is_partial {
         return Err(Fault::Memory);
@@ -223,12 +238,74 @@ fn stat_of<R>(
     let file_len = progress.file_len();
     Ok(Stat {
         hash,
-        summary,
+        parts: counted.parts,
+        summary: counted.summary,
         seen: *seen,
-        handles,
         file_len,
-        gaps: Gaps::new(progress.block_end(), &handles, file_len),
+        gaps: Gaps::new(progress.block_end(), handles, file_len),
     })
+}
+
+// Checks a plain table of a file whole: what was counted, and what was seen.
+fn count_plain<H: BlockHash, S: FrameSource + Drop, R: Clock + Eprint>(
+    progress: &Progress<'_, R>,
+    alloc: Global,
+    file: &str,
+    source: S,
+    handles: &RunHandles,
+) -> Result<(Counted, Seen)> {
+    let mut source = Observed::<H, S>::new(source, *handles);
+    match check_whole::<H, _, R>(progress, alloc, file, &mut source, handles) {
+        Ok(summary) => {
+            let counted = Counted {
+                parts: None,
+                summary,
+            };
+            Ok((counted, *source.seen()))
+        }
+        Err(fault) => Err(fault),
+    }
+}
+
+// Checks a parted table of a file whole: what was counted, and what was seen.
+fn count_parted<H: BlockHash, S: FrameSource + Drop, R: Clock + Eprint>(
+    progress: &Progress<'_, R>,
+    alloc: Global,
+    file: &str,
+    source: S,
+    handles: &RunHandles,
+) -> Result<(Counted, Seen)> {
+    let mut source = source;
+    test_filters::<H, S, R>(progress, alloc, file, &mut source, handles)?;
+    let seen = Cell::new(Seen::none());
+    let source = ObservedParts::<H, S>::new(source, handles.index, &seen);
+    let mut table = open_parts::<H, _, R>(progress, alloc, file, source, handles)?;
+    match check_parts(progress, alloc, file, &mut table) {
+        Ok(summary) => {
+            let counted = Counted {
+                parts: Some(summary.parts),
+                summary: summary.whole,
+            };
+            Ok((counted, seen.get()))
+        }
+        Err(fault) => Err(fault),
+    }
+}
+
+// Checks a table of a file whole, plain or parted.
+fn count_in<H: BlockHash, S: FrameSource + Drop, R: Clock + Eprint>(
+    progress: &Progress<'_, R>,
+    alloc: Global,
+    file: &str,
+    source: S,
+    handles: &RunHandles,
+) -> Result<(Counted, Seen)> {
+    let mut source = source;
+    if is_parted::<H, S>(alloc, &mut source, handles) {
+        count_parted::<H, S, R>(progress, alloc, file, source, handles)
+    } else {
+        count_plain::<H, S, R>(progress, alloc, file, source, handles)
+    }
 }
 
 // Checks a table of a file whole: what it has.
@@ -240,11 +317,10 @@ fn stat_in<H: BlockHash, S: FrameSource + Drop, R: Clock + Eprint>(
     source: S,
     handles: RunHandles,
 ) -> Result<Stat> {
-    let mut source = Observed::<H, S>::new(source, handles);
-    let checked = check_whole::<H, _, R>(progress, alloc, file, &mut source, &handles);
+    let counted = count_in::<H, S, R>(progress, alloc, file, source, &handles);
     progress.clear();
-    match checked {
-        Ok(summary) => stat_of(progress, hash, handles, source.seen(), summary),
+    match counted {
+        Ok((counted, seen)) => stat_of(progress, hash, &handles, &seen, counted),
         Err(fault) => Err(fault),
     }
 }

@@ -9,7 +9,7 @@ use crate::progress::Progress;
 use byteorder::{ByteOrder, LittleEndian};
 use sstable_blocks::run::check;
 use sstable_blocks::run::checked::index_block_from;
-use sstable_blocks::run::footer::read_footer;
+use sstable_blocks::run::footer::read_table_footer;
 use sstable_blocks::{
     BlockHandle, BlockHash, BlockOffset, Error, FrameSource, IndexBlock, RunHandles, RunSummary,
     SizedSource, Steps,
@@ -19,8 +19,8 @@ use std::alloc::Global;
 // The length of the number of items, at the end of a block.
 const COUNT_LEN: u32 = 4;
 
-// The number of the data block at an offset, by the handles.
-fn data_block_at(index: &IndexBlock, offset: u64) -> Option<usize>
+/// Returns the number of the block or the part at an offset, by the handles of an index.
+pub fn number_at(index: &IndexBlock, offset: u64) -> Option<usize>
     ensures { IfSome result (λ i. option_map (λ h. h.offset) (slice_get index.now.items i) ≡ Some offset) }
 {
     let mut number = 0usize;
@@ -42,7 +42,7 @@ fn named_by(number: Option<usize>) -> Option<TableBlock> {
 // The data block at an offset, by the index that was read.
 fn data_block_in(read: sstable_blocks::Result<IndexBlock>, offset: u64) -> Option<TableBlock> {
     match read {
-        Ok(index) => named_by(data_block_at(&index, offset)),
+        Ok(index) => named_by(number_at(&index, offset)),
         Err(_) => None,
     }
 }
@@ -82,19 +82,6 @@ fn fault_of<H: BlockHash, S: FrameSource, R>(
     }
 }
 
-/// Reads the handles in the footer of a table file.
-///
-/// # Errors
-///
-/// Those of the footer.
-pub fn footer_of<S: SizedSource>(
-    alloc: Global,
-    source: &mut S,
-) -> sstable_blocks::Result<RunHandles> {
-    let len = source.byte_len()?;
-    read_footer(alloc, source, len)
-}
-
 /// Reads where the index and the filter of a table file are.
 ///
 /// # Errors
@@ -106,7 +93,7 @@ pub fn handles_of<S: SizedSource, R>(
     file: &str,
     source: &mut S,
 ) -> Result<RunHandles> {
-    match footer_of(alloc, source) {
+    match read_table_footer(alloc, source) {
         Ok(handles) => Ok(handles),
         Err(error) => Err(progress.fault(alloc, file, error)),
     }

@@ -1,6 +1,6 @@
 -- Lists of entries one after the other, each with its end in a handle: in order as a whole where each is, and none begins
 -- before the end of the one before.
-use Rattle.std.proofs.Common.{◌≡◌, ◌≢◌, ℕ, Bool, true, false, not, eqb, List, [], ◌∷◌, ◌++◌, refl, sym, ◌∙◌, ap, subst, append_assoc, Option, Some, None, Result, Ok, ◌&&◌}
+use Rattle.std.proofs.Common.{◌≡◌, ◌≢◌, ℕ, Bool, true, false, not, eqb, List, [], ◌∷◌, ◌++◌, refl, sym, ◌∙◌, ap, subst, Option, Some, None, Result, Ok, ◌&&◌}
 use Rattle.std.proofs.lemmas.Bool.{eqb-true, eq-eqb, and_parts, and_from}
 use Rattle.std.specs.Cmp.Lexicographic.{slice_cmp}
 use Rattle.std.specs.Cmp.{Equal-is}
@@ -16,7 +16,7 @@ use Rattle.sst_base.specs.declared.error.Error.{Error}
 use Rattle.sst_block_core.specs.Entries.{entries}
 use Rattle.sst_block_core.specs.Handles.{Handle, handles}
 use Rattle.sst_block_core.specs.Kind.{IsOrdered, item_cmp}
-use Rattle.sstable_blocks.specs.EndLaws.{back_in_order, tail_in_order}
+use Rattle.sstable_blocks.specs.EndLaws.{back_in_order, block_behind, tail_in_order}
 use Rattle.sstable_blocks.specs.Lookup.{IsEnd}
 use Rattle.sstable_blocks.specs.RunChecks.{end_cmp}
 
@@ -78,13 +78,10 @@ module _ (block : List Entry) (h : Handle) (i : IsEnd entries handles block h) w
   after_last [] c o = tt
   after_last (y ∷ ys) c o = ((λ less. c (end_cmp-last y ∙ less)), o)
 
-  whole_rest : (rest : List Entry) → block ++ rest ≡ i.front ++ i.last ∷ rest
-  whole_rest rest = ap (λ xs. xs ++ rest) i.whole ∙ append_assoc i.front (i.last ∷ []) rest
-
   -- an ordered list that follows an ordered list, as one
   pub ordered_join : (rest : List Entry) → IsOrdered entries block → FollowsEnd (Some h) rest → IsOrdered entries rest → IsOrdered entries (block ++ rest)
   ordered_join rest a c b =
-      subst (IsOrdered entries) (sym (whole_rest rest))
+      subst (IsOrdered entries) (sym (block_behind entries handles block h i rest))
       (order_join (item_cmp entries) i.front i.last rest (subst (IsOrdered entries) i.whole a) (after_last rest c b))
 
   follows_last : (rest : List Entry) → IsOrdered entries (i.last ∷ rest) → FollowsEnd (Some h) rest
@@ -94,5 +91,5 @@ module _ (block : List Entry) (h : Handle) (i : IsEnd entries handles block h) w
   -- and the other way round
   pub ordered_cut : (rest : List Entry) → IsOrdered entries (block ++ rest) → FollowsEnd (Some h) rest × IsOrdered entries rest
   ordered_cut rest o =
-      let after = back_in_order (item_cmp entries) i.front (i.last ∷ rest) (subst (IsOrdered entries) (whole_rest rest) o) in
+      let after = back_in_order (item_cmp entries) i.front (i.last ∷ rest) (subst (IsOrdered entries) (block_behind entries handles block h i rest) o) in
       (follows_last rest after, tail_in_order (item_cmp entries) i.last rest after)

@@ -42,10 +42,15 @@ pub mod MeaningLaws
 pub mod SoundReadLaws
 pub mod KeptLaws
 pub mod TableCountLaws
+pub mod FrameCountLaws
 pub mod BoundLaws
 pub mod BetweenLaws
 pub mod RisingLaws
 pub mod RangeReadLaws
 pub mod Callers
 pub mod Prelude
+pub mod Results
+pub mod BlockTypes
+pub mod ValueTypes
+pub mod BlockLaws
 pub mod RunBlocks

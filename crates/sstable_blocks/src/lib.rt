@@ -20,8 +20,9 @@ pub use sst_base::{
     Block, BlockHandle, BlockHash, BlockOffset, BlockType, ByteSum, Checksum, ChecksumType,
     ChecksummedReader, ChecksummedWriter, Decode, Encode, Error, HashRatio, Header, HeaderName,
     Input, InternalKey, InternalValue, Output, Poly31, Result, SeekInput, SeqNo, Slice, Steps,
-    TagName, UserKey, UserValue, ValueType, append_exact, checksum, coding, double_ended_peekable,
-    hash, key, slice, value, value_type,
+    TagName, UserKey, UserValue, ValueType, append_exact, checksum, coding, config,
+    double_ended_peekable, error, ghost_state, hash, in_place, input, key, output, slice, value,
+    value_type,
 };
 pub use sst_block_core::{AsEntry, DataBlock, EntryView, IndexBlock, KeyedBlockHandle};
 pub use table::filter::{self, FilterBlock};

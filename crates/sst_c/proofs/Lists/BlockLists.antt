@@ -3,10 +3,8 @@ use Rattle.std.proofs.Common.{◌≡◌, ◌∙◌, ℕ, List, Option, None, Som
 use Rattle.std.specs.Prelude.{slice_get}
 use Rattle.std.specs.Option.{option_map}
 use Rattle.xxh3.specs.Xxh3.{xxh3_64}
-use Rattle.sst_base.specs.BlockHandle.{HandleParts}
-use Rattle.sst_base.specs.Entry.{Entry}
-use Rattle.sst_block_core.specs.HandleRanges.{handle_range}
-use Rattle.sst_block_core.specs.Handles.{Handle}
+use Rattle.sstable_blocks.specs.Prelude.{HandleParts, Entry, Handle}
+use Rattle.sstable_blocks.specs.BlockLaws.{handle_range}
 use Rattle.sstable_blocks.specs.Opened.{IsOpen, Opened, index_in}
 use Rattle.sstable_blocks.specs.declared.run.RunHandles.{RunHandles}
 

@@ -1,10 +1,9 @@
 -- Entries as C gives them.
 use Rattle.std.proofs.Common.{◌≡◌, ◌<◌, ℕ, zero, suc, List, [], ◌∷◌, map, refl, sym, ◌∙◌, ap, arith, Some, slice_index_or, length}
 use Rattle.std.specs.List.{AllByRecursion}
-use Rattle.sst_base.specs.Entry.{Entry}
-use Rattle.sst_base.specs.ReadingLaws.{value_type_of-byte}
-use Rattle.sst_base.specs.ValueType.{value_type_byte, value_type_of}
-use Rattle.sst_base.specs.declared.value_type.ValueType.{ValueType}
+use Rattle.sstable_blocks.specs.Prelude.{Entry, value_type_byte, value_type_of}
+use Rattle.sstable_blocks.specs.BlockLaws.{value_type_of-byte}
+use Rattle.sstable_blocks.specs.ValueTypes.{ValueType}
 use Rattle.sst_c.specs.Given.{Parts, parts_given, entry_parts, AreGiven, IsGiven}
 use Rattle.sst_c.specs.declared.entries.SstEntry.{SstEntry}
 

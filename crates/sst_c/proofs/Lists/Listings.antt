@@ -5,9 +5,7 @@ use Rattle.std.proofs.lemmas.Bool.{cases_order}
 use Rattle.std.proofs.lemmas.Grind.{get_or-set_at}
 use Rattle.std.proofs.lemmas.List.{get_or-set_other, get_or-take, length-take-le, drop-set-lt, drop-drop}
 use Rattle.std.proofs.lemmas.Option.{slice_get_within, get_or_from_slice_get, slice_get-get_or}
-use Rattle.sst_base.specs.Entry.{Entry}
-use Rattle.sst_block_core.specs.ParsedEntry.{entry_of}
-use Rattle.sst_block_core.specs.declared.table.data_block.parsed_item.DataBlockParsedItem.{DataBlockParsedItem}
+use Rattle.sstable_blocks.specs.Prelude.{Entry, entry_of, DataBlockParsedItem}
 use Rattle.sst_c.specs.Blocks.{IsPlaceOf}
 use Rattle.sst_c.specs.Listing.{AreListed}
 use Rattle.sst_c.specs.declared.data_block.SstPlace.{SstPlace}

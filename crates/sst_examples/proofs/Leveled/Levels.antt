@@ -6,12 +6,9 @@ use Rattle.std.specs.Cmp.Lexicographic.{slice_cmp}
 use Rattle.std.specs.Option.{option_map}
 use Rattle.std.specs.Ordering.{nat_cmp, is_eq}
 use Rattle.std.specs.Prelude.{nat_lt, ◌&&◌}
-use Rattle.sst_base.specs.Entry.{Entry, plain, plain_value}
-use Rattle.sst_base.specs.KeyOrderLaws.{slice_cmp-equal}
-use Rattle.sst_base.specs.declared.value_type.ValueType.{ValueType}
-use Rattle.sst_block_core.specs.Entries.{entries}
-use Rattle.sst_block_core.specs.Kind.{IsOrdered}
-use Rattle.sst_block_core.specs.Window.{first_match, is_version}
+use Rattle.sstable_blocks.specs.Prelude.{Entry, plain, plain_value, entries, IsOrdered, first_match, is_version}
+use Rattle.sstable_blocks.specs.BlockLaws.{slice_cmp-equal}
+use Rattle.sstable_blocks.specs.ValueTypes.{ValueType}
 use Rattle.sst_merge.specs.Compact.{IsKeptRead, compacted}
 use Rattle.sst_merge.specs.Merge.{entry_cmp, merge, merged}
 use Rattle.sst_merge.specs.MergeLaws.{merge-nil}

@@ -9,17 +9,13 @@ use Rattle.std.specs.Ordering.{nat_cmp, is_eq, is_lt, ordering_then}
 use Rattle.std.specs.Prelude.{nat_lt}
 use Rattle.std.specs.declared.cmp.Ordering.{Ordering}
 use Rattle.std.specs.declared.cmp.Ordering.TheVariants.{Equal, Greater}
-use Rattle.sst_base.specs.Entry.{Entry, plain}
-use Rattle.sst_base.specs.KeyOrderLaws.{slice_cmp-equal}
-use Rattle.sst_block_core.specs.Entries.{entries}
-use Rattle.sst_block_core.specs.Kind.{IsOrdered}
-use Rattle.sst_block_core.specs.Window.{first_match, is_version}
-use Rattle.sst_merge.specs.Compact.{compact_from, is_seen, is_hidden, is_dropped, unless_bottom}
+use Rattle.sstable_blocks.specs.Prelude.{Entry, plain, entries, IsOrdered, first_match, is_version}
+use Rattle.sstable_blocks.specs.BlockLaws.{slice_cmp-equal, and_parts, eq_is}
+use Rattle.sst_merge.specs.Compact.{compact_from, is_seen, is_hidden, is_dropped, unless_dropped}
 use Rattle.sst_merge.specs.Merge.{entry_cmp, lesser, merge, merge_after}
 use Rattle.sst_merge.specs.RangeLaws.{version_key}
 use Rattle.sst_merge.specs.ReadLaws.{merge_match}
 use Rattle.sst_examples.specs.Levels.{AreBelow, AreNewer}
-use Rattle.sst_base.specs.TestLaws.{and_parts, eq_is}
 
 module _ (P : Entry → Type 0) where
   -- of all that a compaction leaves
@@ -30,12 +26,12 @@ module _ (P : Entry → Type 0) where
       let same = all_compact ss bottom last xs all.1 in
       let next = all_compact ss bottom at xs all.1 in
       let go = compact_from (λ (e : Entry). e) ss bottom in
-      let fresh = unless_bottom (λ (e : Entry). e) ss bottom x (go at xs) in
+      let fresh = unless_dropped (λ (e : Entry). e) ss bottom x xs (go at xs) in
       elim (is_seen ss x.key.seqno) as (λ b. AllByRecursion P (cond b (cond (is_hidden (λ (e : Entry). e) ss last x) (go last xs) fresh) (x ∷ go last xs))) [
         | false ↦ (all.0, same)
         | true ↦ elim (is_hidden (λ (e : Entry). e) ss last x) as (λ b. AllByRecursion P (cond b (go last xs) fresh)) [
           | true ↦ same
-          | false ↦ elim (is_dropped (λ (e : Entry). e) ss bottom x) as (λ b. AllByRecursion P (cond b (go at xs) (x ∷ go at xs))) [
+          | false ↦ elim (is_dropped (λ (e : Entry). e) ss bottom x xs) as (λ b. AllByRecursion P (cond b (go at xs) (x ∷ go at xs))) [
             | true ↦ next
             | false ↦ (all.0, next)
           ]

@@ -5,19 +5,12 @@ use Rattle.std.proofs.lemmas.List.{get_or-map, length-map, length-take-le}
 use Rattle.std.specs.Cmp.Derive.{both_true}
 use Rattle.std.specs.Option.{option_map, is_some, IfSome}
 use Rattle.std.specs.Prelude.{nat_lt, ◌&&◌}
-use Rattle.sst_base.specs.BlockHandle.{HandleParts}
-use Rattle.sst_base.specs.Bytes.{IsBytes}
-use Rattle.sst_base.specs.Entry.{Entry, plain}
-use Rattle.sst_base.specs.FrameLaws.{length-frame}
 use Rattle.xxh3.specs.Xxh3Laws.{xxh3_128-below}
-use Rattle.sst_base.specs.declared.error.Error.{Error}
-use Rattle.sst_base.specs.declared.error.Error.TheVariants.{BadHandle}
-use Rattle.sst_base.specs.declared.table.block.block_type.BlockType.{BlockType}
-use Rattle.sst_base.specs.declared.table.block.block_type.BlockType.TheVariants as types
-use Rattle.sst_block_core.specs.Checks.{is_in_order}
-use Rattle.sst_block_core.specs.Entries.{entries}
-use Rattle.sst_block_core.specs.Kind.{IsOrdered}
-use Rattle.sst_block_core.specs.Handles.{Handle}
+use Rattle.sstable_blocks.specs.Prelude.{HandleParts, IsBytes, Entry, plain, is_in_order, entries, IsOrdered, Handle}
+use Rattle.sstable_blocks.specs.BlockLaws.{length-frame, and_parts, lt_test, some_is}
+use Rattle.sstable_blocks.specs.Results.{Error, BadHandle}
+use Rattle.sstable_blocks.specs.BlockTypes.{BlockType}
+use Rattle.sstable_blocks.specs.BlockTypes as types
 use Rattle.sst_merge.specs.Merge.{entry_cmp, merged}
 use Rattle.sstable_blocks.specs.BoundLaws.{plain_ordered}
 use Rattle.sst_merge.specs.Sources.{all_known}
@@ -32,7 +25,6 @@ use Rattle.sstable_blocks.specs.Scans.{KeyRange, blocks_read, handles_within, wi
 use Rattle.sstable_blocks.specs.Sound.{IsSound, IsStoredFilter}
 use Rattle.sstable_blocks.specs.declared.run.RunHandles.{RunHandles}
 use Rattle.sstable_blocks.specs.declared.run.checking.RunSummary.{RunSummary}
-use Rattle.sst_base.specs.TestLaws.{and_parts, lt_test, some_is}
 use Rattle.sst_merge.specs.TableReads.{bytes_by, fits_by, order_passes, within_all}
 
 bytes_pass : (bytes : List ℕ) → IsBytes bytes → are_bytes bytes ≡ true

@@ -4,9 +4,7 @@ use Rattle.std.proofs.Math.Seq.{drop-cons}
 use Rattle.std.proofs.lemmas.List.{drop_all}
 use Rattle.std.specs.List.{AllByRecursion}
 use Rattle.std.specs.Option.{option_map}
-use Rattle.sst_base.specs.Entry.{Entry, plain}
-use Rattle.sst_block_core.specs.Entries.{entries}
-use Rattle.sst_block_core.specs.Window.{first_match, is_version}
+use Rattle.sstable_blocks.specs.Prelude.{Entry, plain, entries, first_match, is_version}
 use Rattle.sst_merge.specs.Merge.{entry_cmp, merge}
 
 -- what holds of all holds of the member at an index

@@ -4,7 +4,8 @@ use Rattle.std.proofs.Math.Seq.{take-suc}
 use Rattle.std.proofs.lemmas.List.{drop_all, map-append, take_all}
 use Rattle.std.specs.List.{AllZip}
 use Rattle.std.specs.Option.{option_map, IfSome}
-use Rattle.sst_base.specs.Entry.{Entry}
+use Rattle.sstable_blocks.specs.Prelude.{Entry}
+use Rattle.sstable_blocks.specs.BlockLaws.{some_is}
 use Rattle.sst_merge.specs.Merge.{entry_cmp, merged}
 use Rattle.sst_merge.specs.Sources.{Left, all_known}
 use Rattle.sst_merge.specs.Stored.{table_list}
@@ -14,7 +15,6 @@ use Rattle.sst_examples.specs.Tables.{MemoryTable, merged_tables, table_entries,
 use Rattle.sstable_blocks.specs.Blocks.{joined}
 use Rattle.sstable_blocks.specs.Run.{Form, IsLayout}
 use Rattle.sstable_blocks.specs.declared.run.RunHandles.{RunHandles}
-use Rattle.sst_base.specs.TestLaws.{some_is}
 
 -- the lists of sources that have a table's entries each
 abbrev pub lists : List (Left Entry) → List (Option (List Entry))

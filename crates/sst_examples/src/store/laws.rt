@@ -1,13 +1,11 @@
 //! Laws of tables, for callers' proofs. Each function states one law, and does nothing.
 ghost use Rattle.std.specs.Prelude.{◌≡◌, ◌<◌, ◌^◌, ℕ, List, Some, Ok, map};
-ghost use Rattle.sst_base.specs.Bytes.{IsBytes};
-ghost use Rattle.sst_base.specs.Entry.{Entry, plain};
-ghost use Rattle.sst_block_core.specs.Handles.{Handle};
 ghost use Rattle.sst_merge.specs.Stored.{table_list};
 ghost use Rattle.sstable_blocks.specs.Blocks.{joined};
+ghost use Rattle.sstable_blocks.specs.declared.run.RunHandles.{RunHandles};
+ghost use Rattle.sstable_blocks.specs.Prelude.{IsBytes, Entry, plain, Handle};
 ghost use Rattle.sstable_blocks.specs.RunReading.{Hashes, handles_at};
 ghost use Rattle.sstable_blocks.specs.Sound.{IsSound};
-ghost use Rattle.sstable_blocks.specs.declared.run.RunHandles.{RunHandles};
 
 use sstable_blocks::run::laws::{sound_is_scanned, sound_run_is_accepted};
 

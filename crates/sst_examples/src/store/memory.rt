@@ -2,15 +2,13 @@
 ghost use Rattle.std.specs.Prelude.{◌≡◌, ◌≤◌, ◌∷◌, [], length};
 ghost use Rattle.std.specs.List.{insert};
 ghost use Rattle.std.specs.Option.{option_map};
-ghost use Rattle.sst_block_core.specs.Entries.{entries};
-ghost use Rattle.sst_block_core.specs.Window.{first_match, is_version};
+ghost use Rattle.sst_examples.specs.Levels.{ArePlain};
 ghost use Rattle.sst_merge.specs.Merge.{entry_cmp, merge};
 ghost use Rattle.sst_merge.specs.Snapshot.{seen};
-ghost use Rattle.sst_examples.specs.Levels.{ArePlain};
+ghost use Rattle.sstable_blocks.specs.Prelude.{entries, first_match, is_version};
 
-use sst_base::{InternalValue, SeqNo};
-use sst_block_core::AsEntry;
 use sst_merge::Ranked;
+use sstable_blocks::{AsEntry, InternalValue, SeqNo};
 
 // The index at which a version goes into an ordered list: before the first one that does not sort
 // before it.

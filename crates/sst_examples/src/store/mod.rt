@@ -2,13 +2,11 @@
 //! which is flushed into a table, and the tables are compacted into one. Tables are in memory too.
 ghost use Rattle.std.specs.Prelude.{◌≡◌, ◌≤◌, ◌<◌, ◌^◌, ℕ, List, ◌∷◌, [], Some, None, map, length, true};
 ghost use Rattle.std.specs.Prelude.{IfErr, IfOk, OnOk, OnErr, ◌+◌, ◌++◌, filter, nat_eq, not};
-ghost use Rattle.sst_base.specs.Entry.{plain, plain_value};
-ghost use Rattle.sst_block_core.specs.Entries.{entries};
-ghost use Rattle.sst_block_core.specs.Window.{first_match};
+ghost use Rattle.sst_examples.specs.Levels.{IsFull, IsVersionWritten, read, version, versions};
 ghost use Rattle.sst_merge.specs.Compact.{IsKeptRead, compacted};
 ghost use Rattle.sst_merge.specs.Merge.{entry_cmp, merge};
 ghost use Rattle.sst_merge.specs.Snapshot.{seen};
-ghost use Rattle.sst_examples.specs.Levels.{IsFull, IsVersionWritten, read, version, versions};
+ghost use Rattle.sstable_blocks.specs.Prelude.{plain, plain_value, entries, first_match};
 
 pub mod laws;
 mod memory;
@@ -16,10 +14,12 @@ mod tables;
 
 use crate::store::memory::{newest, place_of, shown};
 use crate::store::tables::{Stored, add_table, merge_of, table_of};
-use sst_base::{Error, InternalValue, Result, SeqNo, Slice, Steps, UserKey, UserValue, ValueType};
-use sst_block_core::laws::first_match_of_plain;
 use sst_merge::laws::compaction_keeps_reads;
 use sst_merge::{Compact, read_tables};
+use sstable_blocks::laws::first_match_of_plain;
+use sstable_blocks::{
+    Error, InternalValue, Result, SeqNo, Slice, Steps, UserKey, UserValue, ValueType,
+};
 use std::alloc::Global;
 use std::marker::Model;
 

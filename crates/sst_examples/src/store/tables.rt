@@ -1,18 +1,19 @@
 //! The tables: written into memory, opened, and scanned.
 ghost use Rattle.std.specs.Prelude.{◌≡◌, List, Some, map, IfOk, OnOk, OnErr, IsSome};
-ghost use Rattle.sst_base.specs.Entry.{Entry, plain};
+ghost use Rattle.sst_examples.specs.Tables.{HoldsEntries, merged_tables, table_entries, table_hashes};
 ghost use Rattle.sst_merge.specs.Sources.{before};
 ghost use Rattle.sst_merge.specs.Tables.{entries_in};
-ghost use Rattle.sst_examples.specs.Tables.{HoldsEntries, merged_tables, table_entries, table_hashes};
 ghost use Rattle.sstable_blocks.specs.Blocks.{joined};
+ghost use Rattle.sstable_blocks.specs.Prelude.{Entry, plain};
 ghost use Rattle.sstable_blocks.specs.Sound.{IsSound};
 
 use crate::store::laws::sound_table_is_known;
-use sst_base::{Error, HashRatio, Result, Slice};
-use sst_block_core::{AsEntry, EntryView};
 use sst_merge::{Head, Merge, Ranked, Sizes, Source, write_table};
 use sstable_blocks::run::laws::{accepted_run_is_sound, layout_is_sound, sound_is_scanned};
-use sstable_blocks::{MemorySource, RunConfig, RunHandles, RunScan, Table, Xxh3};
+use sstable_blocks::{
+    AsEntry, EntryView, Error, HashRatio, MemorySource, Result, RunConfig, RunHandles, RunScan,
+    Slice, Table, Xxh3,
+};
 use std::alloc::Global;
 
 /// A table in memory.

@@ -5,7 +5,7 @@ use Rattle.std.proofs.lemmas.List.{take-append-drop, length-take-le}
 use Rattle.std.specs.List.{AllByRecursion}
 use Rattle.std.specs.Ordering.{is_lt}
 use Rattle.std.specs.declared.cmp.Ordering.{Ordering}
-use Rattle.sst_base.specs.TestLaws.{not_true, some_is}
+use Rattle.sstable_blocks.specs.BlockLaws.{not_true, some_is}
 use Rattle.sst_merge.specs.Merge.{merge, merged}
 use Rattle.sst_merge.specs.MergeLaws.{merge-nil, merge-first, merge-second, all_merge}
 use Rattle.sst_merge.specs.Picks.{list_at}

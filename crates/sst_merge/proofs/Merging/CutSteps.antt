@@ -8,8 +8,8 @@ use Rattle.std.specs.List.{count_by}
 use Rattle.std.specs.Ordering.{is_lt, ordering_reverse}
 use Rattle.std.specs.declared.cmp.Ordering.{Ordering}
 use Rattle.std.specs.declared.cmp.Ordering.TheVariants.{Less, Equal, Greater}
-use Rattle.sst_base.specs.Order.{IsInOrder}
-use Rattle.sst_base.specs.TestLaws.{not_true, some_is, lt_is, not_lt, is_not_lt}
+use Rattle.sstable_blocks.specs.Prelude.{IsInOrder}
+use Rattle.sstable_blocks.specs.BlockLaws.{not_true, some_is, lt_is, not_lt, is_not_lt}
 use Rattle.sst_merge.specs.MergeReads.{ge_trans}
 use Rattle.sst_merge.specs.Merge.{merge, merged}
 use Rattle.sst_merge.specs.MergeLaws.{merge-first, merge-second}

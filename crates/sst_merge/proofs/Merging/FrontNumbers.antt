@@ -5,9 +5,8 @@ use Rattle.std.proofs.lemmas.List.{get_or-drop}
 use Rattle.std.proofs.Math.Seq.{drop-append-add}
 use Rattle.byteorder.specs.Endian.{big_number, big_from}
 use Rattle.byteorder.specs.Numbers.{big_from-lt, big_from-append}
-use Rattle.sst_base.specs.Bytes.{IsBytes}
-use Rattle.sst_base.specs.NumberLaws.{big_number-cons, number_past_end, pow_256}
-use Rattle.sst_block_core.specs.Heads.{front}
+use Rattle.sstable_blocks.specs.Prelude.{IsBytes, front}
+use Rattle.sstable_blocks.specs.BlockLaws.{big_number-cons, number_past_end, pow_256}
 use Rattle.sst_merge.specs.Fronts.{key_front}
 
 -- the last digit

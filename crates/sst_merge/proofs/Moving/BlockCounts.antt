@@ -5,12 +5,8 @@ use Rattle.std.proofs.lemmas.List.Sums.{count_by-le-length}
 use Rattle.std.specs.Cmp.Lexicographic.{slice_cmp}
 use Rattle.std.specs.List.{AllByRecursion, count_by}
 use Rattle.std.specs.Ordering.{nat_cmp}
-use Rattle.sst_base.specs.Entry.{Entry}
-use Rattle.sst_base.specs.KeyOrderLaws.{versions_cmp_total}
-use Rattle.sst_base.specs.TestLaws.{some_is}
-use Rattle.sst_block_core.specs.Entries.{entries}
-use Rattle.sst_block_core.specs.Kind.{IsOrdered}
-use Rattle.sst_block_core.specs.Window.{passes, count_passed}
+use Rattle.sstable_blocks.specs.Prelude.{Entry, entries, IsOrdered, passes, count_passed}
+use Rattle.sstable_blocks.specs.BlockLaws.{versions_cmp_total, some_is}
 use Rattle.sstable_blocks.specs.Blocks.{IsNotEmpty, joined}
 use Rattle.sst_merge.specs.Merge.{entry_cmp}
 use Rattle.sst_merge.specs.Movable.{is_sought, item_before}

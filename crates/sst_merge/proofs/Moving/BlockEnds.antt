@@ -4,11 +4,8 @@ use Rattle.std.proofs.lemmas.Bool.{lt-ltb, le-ltb}
 use Rattle.std.proofs.lemmas.List.{get_or-map, length-map, length-take-le, take_all, take_rest}
 use Rattle.std.proofs.lemmas.Option.{slice_get-get_or, slice_get_past, slice_get_within}
 use Rattle.std.specs.List.{AllByRecursion, count_by}
-use Rattle.sst_base.specs.Counted.{found_item}
-use Rattle.sst_base.specs.Entry.{Entry}
-use Rattle.sst_base.specs.TestLaws.{some_is}
-use Rattle.sst_block_core.specs.Entries.{entries}
-use Rattle.sst_block_core.specs.Window.{Window, Answer, count_passed, item, items_left, seek, seek_upper, whole}
+use Rattle.sstable_blocks.specs.Prelude.{found_item, Entry, entries, Window, Answer, count_passed, item, items_left, seek, seek_upper, whole}
+use Rattle.sstable_blocks.specs.BlockLaws.{some_is}
 use Rattle.sstable_blocks.specs.Blocks.{IsNotEmpty, joined}
 use Rattle.sst_merge.specs.Movable.{is_sought, item_before}
 use Rattle.sst_merge.specs.MovableBlocks.{HoldsBack, HoldsFront, IsBackIn, IsFrontIn, TakesFirstOf, TakesLastOf, back_place, entries_before, entry_key, front_place, is_block_sought, is_last_sought, window_of}

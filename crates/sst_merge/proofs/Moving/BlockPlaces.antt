@@ -2,7 +2,7 @@
 use Rattle.std.proofs.Common.{◌≡◌, ℕ, zero, suc, ◌+◌, ◌<◌, ◌≤◌, List, [], ◌∷◌, ◌++◌, length, take, drop, Some, slice_get, refl, sym, ap, ◌∙◌, arith, length-append}
 use Rattle.std.proofs.lemmas.List.{take_all}
 use Rattle.std.proofs.lemmas.Option.{slice_get_within}
-use Rattle.sst_base.specs.TestLaws.{some_is}
+use Rattle.sstable_blocks.specs.BlockLaws.{some_is}
 use Rattle.sstable_blocks.specs.Blocks.{joined}
 
 module _ {X : Type 0} where

@@ -2,8 +2,8 @@
 use Rattle.std.proofs.Common.{◌≡◌, ℕ, zero, suc, ◌+◌, ◌<◌, ◌≤◌, nat_eq, List, [], ◌∷◌, ◌++◌, length, take, Some, slice_get, refl, ap, eq-eqb, ◌∙◌, arith, length-append}
 use Rattle.std.proofs.lemmas.Bool.{ne_eqb}
 use Rattle.std.specs.List.{AllByRecursion}
-use Rattle.sst_base.specs.Entry.{Entry}
-use Rattle.sst_base.specs.TestLaws.{some_is}
+use Rattle.sstable_blocks.specs.Prelude.{Entry}
+use Rattle.sstable_blocks.specs.BlockLaws.{some_is}
 use Rattle.sstable_blocks.specs.Blocks.{IsNotEmpty, joined}
 use Rattle.sst_merge.specs.MovableBlocks.{entries_before}
 use Rattle.sst_merge.specs.MovableTables.{later_starts, starts_from}

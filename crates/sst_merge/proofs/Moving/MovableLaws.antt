@@ -12,9 +12,8 @@ use Rattle.std.specs.List.{AllByRecursion, count_by, sum_by}
 use Rattle.std.specs.Ordering.{is_lt, is_le, nat_cmp, ordering_reverse}
 use Rattle.std.specs.declared.cmp.Ordering.{Ordering}
 use Rattle.std.specs.declared.cmp.Ordering.TheVariants.{Less, Equal, Greater}
-use Rattle.sst_base.specs.Order.{IsInOrder}
-use Rattle.sst_base.specs.TestLaws.{not_true, not_false, some_is}
-use Rattle.sst_block_core.specs.Window.{Window, whole, first_left, last_left, some_left, next, next_back, Answer, item}
+use Rattle.sstable_blocks.specs.Prelude.{IsInOrder, Window, whole, first_left, last_left, some_left, next, next_back, Answer, item}
+use Rattle.sstable_blocks.specs.BlockLaws.{not_true, not_false, some_is, item_same}
 use Rattle.sst_merge.specs.Merge.{merged}
 use Rattle.sst_merge.specs.Picks.{list_at}
 use Rattle.sst_merge.specs.Cuts.{IsItem, comes_first, IsCut, IsNext, total}
@@ -22,7 +21,6 @@ use Rattle.sst_merge.proofs.Merging.CutLaws.{item_between}
 use Rattle.sst_merge.proofs.Merging.CutSteps.{cut_forth, cut_back, all_before, none_first, none_last, total_same, total_le, total_lt, total_next, cut_none, cut_all, total_none, total_all, cut_by, count_merged, Separates, lt_ge, ge_lt, ge_ge, weakly, not_itself}
 use Rattle.sstable_blocks.specs.BetweenLaws.{item_found}
 use Rattle.sst_merge.specs.Movable.{item_before, is_below, is_at_most, IsFrontAmong, IsBackAmong, IsFresh, lists_in, count_at, merged_window, AreMoved, goes_before, goes_after, FirstAmong, LastAmong, IsFrontPick, IsBackPick, TakesFront, TakesBack, seek_to, seek_up_to, changed_until}
-use Rattle.sst_block_core.specs.WindowLaws.{item_same}
 
 module _ {X : Type 0} where
   -- a window at an index

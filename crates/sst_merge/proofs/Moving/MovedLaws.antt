@@ -9,10 +9,9 @@ use Rattle.std.specs.List.{AllByRecursion, sum_by}
 use Rattle.std.specs.Option.{option_map, IfSome}
 use Rattle.std.specs.Prelude.{if◌then◌else◌}
 use Rattle.std.specs.declared.cmp.Ordering.{Ordering}
-use Rattle.sst_base.specs.Counted.{found_item}
-use Rattle.sst_base.specs.declared.error.Error.{Error}
-use Rattle.sst_block_core.specs.Window.{Window, whole, some_left, first_left, last_left, next, next_back, Step, item}
-use Rattle.sst_block_core.specs.WindowLaws.{item_same}
+use Rattle.sstable_blocks.specs.Prelude.{found_item, Window, whole, some_left, first_left, last_left, next, next_back, Step, item}
+use Rattle.sstable_blocks.specs.Results.{Error}
+use Rattle.sstable_blocks.specs.BlockLaws.{item_same}
 use Rattle.sst_merge.specs.ErrorLaws.{met_under, one_of_all}
 use Rattle.sst_merge.specs.Movable.{AreMoved, IsBackAmong, IsBackPick, IsFresh, IsFrontAmong, IsFrontPick, TakesBack, TakesFront, changed_until, goes_after, goes_before, item_before, merged_window}
 use Rattle.sst_merge.specs.Moved.{AsksAtMost, IsFreshSource, IsSought, IsStep, MayStop, Moved, all_some, are_known, but_reads, merged_moved, moved_errors, sought, step_back, step_front, unless_ended, window_or_empty, windows}

@@ -4,10 +4,8 @@ use Rattle.std.proofs.lemmas.Bool.{cases_lt}
 use Rattle.std.proofs.lemmas.List.{get_or-map, length-map}
 use Rattle.std.proofs.lemmas.Option.{slice_get-get_or}
 use Rattle.std.specs.List.{count_by}
-use Rattle.sst_base.specs.Entry.{Entry}
-use Rattle.sst_base.specs.KeyOrderLaws.{versions_cmp_total}
-use Rattle.sst_block_core.specs.Entries.{entries}
-use Rattle.sst_block_core.specs.Kind.{IsOrdered}
+use Rattle.sstable_blocks.specs.Prelude.{Entry, entries, IsOrdered}
+use Rattle.sstable_blocks.specs.BlockLaws.{versions_cmp_total}
 use Rattle.sst_merge.specs.KeyedLaws.{entry_by_key}
 use Rattle.sst_merge.specs.Merge.{entry_cmp}
 use Rattle.sst_merge.specs.Movable.{is_sought}

@@ -6,19 +6,10 @@ use Rattle.std.specs.Cmp.Lexicographic.{slice_cmp}
 use Rattle.std.specs.List.{AllByRecursion, AllZip}
 use Rattle.std.specs.Ordering.{is_eq, is_lt, nat_cmp}
 use Rattle.std.specs.Prelude.{◌&&◌}
-use Rattle.sst_base.specs.Entry.{Entry, IsEntry, plain}
-use Rattle.sst_base.specs.KeyOrderLaws.{slice_cmp-equal}
-use Rattle.sst_base.specs.TestLaws.{is_not_lt}
-use Rattle.sst_base.specs.declared.error.Error.{Error}
-use Rattle.sst_base.specs.declared.table.block.block_type.BlockType.TheVariants as types
-use Rattle.sst_block_core.specs.Checks.{data_check, index_check, DataVerdict, IndexVerdict, is_in_order}
-use Rattle.sst_block_core.specs.Entries.{entries}
-use Rattle.sst_block_core.specs.Handles.{Handle, handles, IsHandle, IsIndexBlock, IndexPasses}
-use Rattle.sst_block_core.specs.Kind.{IsOrdered}
-use Rattle.sst_block_core.specs.Payload.{IsBlock}
-use Rattle.sst_block_core.specs.Stages.{Passes, items_in}
-use Rattle.sst_block_core.specs.Trailer.{trailer_in}
-use Rattle.sst_block_core.specs.Window.{first_match}
+use Rattle.sstable_blocks.specs.Prelude.{Entry, IsEntry, plain, data_check, index_check, DataVerdict, IndexVerdict, is_in_order, entries, Handle, handles, IsHandle, IsIndexBlock, IndexPasses, IsOrdered, IsBlock, Passes, items_in, trailer_in, first_match}
+use Rattle.sstable_blocks.specs.BlockLaws.{slice_cmp-equal, is_not_lt}
+use Rattle.sstable_blocks.specs.Results.{Error}
+use Rattle.sstable_blocks.specs.BlockTypes as types
 use Rattle.sstable_blocks.specs.Blocks.{joined}
 use Rattle.sstable_blocks.specs.BoundLaws.{joined_plain, plain_ordered}
 use Rattle.sstable_blocks.specs.RunReading.{Hashes, handles_at, payload_at}

@@ -10,17 +10,9 @@ use Rattle.std.specs.Option.{IfSome, option_map}
 use Rattle.std.specs.Result.{IfOk}
 use Rattle.std.specs.Ordering.{is_le, is_lt, nat_cmp}
 use Rattle.std.specs.Prelude.{◌&&◌}
-use Rattle.sst_base.specs.Counted.{found_item}
-use Rattle.sst_base.specs.Entry.{Entry}
-use Rattle.sst_base.specs.TestLaws.{and_parts, some_is}
-use Rattle.sst_base.specs.declared.error.Error.{Error}
-use Rattle.sst_base.specs.declared.error.Error.TheVariants.{BadHandle, Io, Truncated}
-use Rattle.sst_block_core.specs.Checks.{is_in_order}
-use Rattle.sst_block_core.specs.Entries.{entries}
-use Rattle.sst_block_core.specs.Handles.{Handle, handles}
-use Rattle.sst_block_core.specs.Kind.{IsOrdered}
-use Rattle.sst_block_core.specs.VersionLaws.{keys_equal}
-use Rattle.sst_block_core.specs.Window.{Answer, Window, count_passed, items_left, passes, seek, seek_upper, whole}
+use Rattle.sstable_blocks.specs.Prelude.{found_item, Entry, is_in_order, entries, Handle, handles, IsOrdered, Answer, Window, count_passed, items_left, passes, seek, seek_upper, whole}
+use Rattle.sstable_blocks.specs.BlockLaws.{and_parts, some_is, keys_equal}
+use Rattle.sstable_blocks.specs.Results.{Error, BadHandle, Io, Truncated}
 use Rattle.sstable_blocks.specs.Blocks.{IsNotEmpty, joined}
 use Rattle.sstable_blocks.specs.BoundLaws.{below_is, up_to_is}
 use Rattle.sstable_blocks.specs.Opened.{range_of}

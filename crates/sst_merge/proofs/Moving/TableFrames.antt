@@ -6,11 +6,8 @@ use Rattle.std.proofs.lemmas.Option.{slice_get_within}
 use Rattle.std.specs.List.{AllByRecursion, count_by}
 use Rattle.std.specs.Option.{IfSome, option_map}
 use Rattle.std.specs.Result.{IfOk}
-use Rattle.sst_base.specs.Counted.{found_item}
-use Rattle.sst_base.specs.Entry.{Entry}
-use Rattle.sst_base.specs.declared.error.Error.{Error}
-use Rattle.sst_block_core.specs.Entries.{entries}
-use Rattle.sst_block_core.specs.Window.{Answer, Window, items_left, seek_upper, whole}
+use Rattle.sstable_blocks.specs.Prelude.{found_item, Entry, entries, Answer, Window, items_left, seek_upper, whole}
+use Rattle.sstable_blocks.specs.Results.{Error}
 use Rattle.sstable_blocks.specs.Blocks.{IsNotEmpty, joined}
 use Rattle.sstable_blocks.specs.RunReading.{Hashes}
 use Rattle.sstable_blocks.specs.Tables.{TableParts}

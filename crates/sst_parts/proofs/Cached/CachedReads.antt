@@ -3,19 +3,9 @@ use Rattle.std.proofs.Common.{◌≡◌, ℕ, ◌+◌, ◌*◌, ◌<◌, ◌≤�
 use Rattle.std.specs.List.{slice_get}
 use Rattle.std.specs.Prelude.{IsOkUnless, nat_lt}
 use Rattle.std.proofs.lemmas.Bool.{cases_Bool}
-use Rattle.sst_base.specs.Counted.{Counted, CountsBetween}
-use Rattle.sst_base.specs.Entry.{Entry}
-use Rattle.sst_base.specs.Header.{◌>>=◌}
-use Rattle.sst_base.specs.declared.error.Error.{Error}
-use Rattle.sst_base.specs.declared.error.Error.TheVariants.{Memory}
-use Rattle.sst_block_core.specs.Candidates.{scan_cost}
-use Rattle.sst_block_core.specs.DataBlock.{DataBlockParts}
-use Rattle.sst_block_core.specs.Entries.{entries}
-use Rattle.sst_block_core.specs.Handles.{Handle, handles}
-use Rattle.sst_block_core.specs.Intervals.{digits}
-use Rattle.sst_block_core.specs.PointReads.{read_most}
-use Rattle.sst_block_core.specs.Pointers.{head_count}
-use Rattle.sst_block_core.specs.Window.{first_match}
+use Rattle.sstable_blocks.specs.Prelude.{Counted, CountsBetween, Entry, scan_cost, DataBlockParts, entries, Handle, handles, digits, head_count, first_match}
+use Rattle.sstable_blocks.specs.Results.{◌>>=◌, Error, Memory}
+use Rattle.sstable_blocks.specs.BlockLaws.{read_most}
 use Rattle.sst_parts.proofs.Reading.Located.{checked_is_located, items_first, some_at}
 use Rattle.sst_parts.specs.Caches.{IsBlockOf, IsReadOf, Origin}
 use Rattle.sst_parts.specs.ManyReads.{block_place, located, read_at}

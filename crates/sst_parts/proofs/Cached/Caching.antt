@@ -6,9 +6,9 @@ use Rattle.std.specs.Option.{option_map_or}
 use Rattle.std.specs.Prelude.{OnOk, is_ok, is_some, nat_eq, nat_le, option_copied}
 use Rattle.std.proofs.lemmas.Bool.{cases_Bool, leb-true, leb-false, eqb-true}
 use Rattle.lru.specs.LruCache.{LruCache, promoted, put_entries}
-use Rattle.sst_block_core.specs.DataBlock.{DataBlockParts}
+use Rattle.sstable_blocks.specs.Prelude.{DataBlockParts}
+use Rattle.sstable_blocks.specs.BlockLaws.{and_parts}
 use Rattle.sst_parts.specs.Caches.{CacheParts, Kept, fitting, is_place, kept_at, kept_bytes, looked_up, one_more}
-use Rattle.sst_base.specs.TestLaws.{and_parts}
 
 abbrev size : Kept → ℕ
 size e = length e.1.payload

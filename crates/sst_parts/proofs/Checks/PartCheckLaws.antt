@@ -3,20 +3,10 @@ use Rattle.std.proofs.Common.{◌≡◌, ℕ, ◌+◌, ◌-◌, ◌<◌, ◌≤�
 use Rattle.std.proofs.lemmas.Bool.{eqb-true, eq-eqb, le-leb, leb-true}
 use Rattle.std.specs.List.{AllZip}
 use Rattle.byteorder.specs.Numbers.{little_from-lt}
-use Rattle.sst_base.specs.BlockHandle.{HandleParts}
-use Rattle.sst_base.specs.Bytes.{IsBytes}
-use Rattle.sst_base.specs.BytesLaws.{IsBytes-take, IsBytes-drop}
-use Rattle.sst_base.specs.Entry.{Entry}
-use Rattle.sst_base.specs.HeaderLaws.{bind_ok, guard_ok, refuse_ok}
-use Rattle.sst_base.specs.declared.error.Error.{Error}
-use Rattle.sst_base.specs.declared.error.Error.TheVariants.{BadHandle, OutOfOrder, Truncated}
-use Rattle.sst_base.specs.declared.table.block.block_type.BlockType.TheVariants as types
-use Rattle.sst_block_core.specs.Checks.{index_check, IndexVerdict}
-use Rattle.sst_block_core.specs.Entries.{entries}
-use Rattle.sst_block_core.specs.Handles.{Handle, handles, IsIndexBlock, IndexPasses}
-use Rattle.sst_block_core.specs.Kind.{IsOrdered}
-use Rattle.sst_block_core.specs.Stages.{items_in}
-use Rattle.sst_block_core.specs.Trailer.{trailer_in}
+use Rattle.sstable_blocks.specs.Prelude.{HandleParts, IsBytes, Entry, index_check, IndexVerdict, entries, Handle, handles, IsIndexBlock, IndexPasses, IsOrdered, items_in, trailer_in}
+use Rattle.sstable_blocks.specs.BlockLaws.{IsBytes-take, IsBytes-drop, bind_ok, guard_ok, refuse_ok}
+use Rattle.sstable_blocks.specs.Results.{Error, BadHandle, OutOfOrder, Truncated}
+use Rattle.sstable_blocks.specs.BlockTypes as types
 use Rattle.sst_parts.specs.PartChecks.{begins_after, check_bytes, check_ends, check_file, check_part, check_parted, check_parts, is_end_at, no_parts, passed_on, summary_of_parts}
 use Rattle.sst_parts.specs.Parts.{IsParted, IsStoredPart, part_in, tops_at}
 use Rattle.sst_parts.specs.declared.checking.PartedSummary.{PartedSummary}

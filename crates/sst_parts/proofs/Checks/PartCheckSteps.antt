@@ -1,14 +1,8 @@
 -- The check of a parted table, step by step.
 use Rattle.std.proofs.Common.{◌≡◌, ℕ, inl, inr, List, sym, ◌∙◌, ap, subst, Option, Some, None, IfSome, IfOk, Result, Ok, Err}
 use Rattle.std.proofs.lemmas.Bool.{eq-eqb}
-use Rattle.sst_base.specs.BlockHandle.{HandleParts}
-use Rattle.sst_base.specs.Bytes.{IsBytes}
-use Rattle.sst_base.specs.Entry.{Entry}
-use Rattle.sst_base.specs.Frame.{demand}
-use Rattle.sst_base.specs.Header.{◌>>=◌}
-use Rattle.sst_base.specs.declared.error.Error.{Error}
-use Rattle.sst_base.specs.declared.error.Error.TheVariants.{BadHandle}
-use Rattle.sst_block_core.specs.Handles.{Handle}
+use Rattle.sstable_blocks.specs.Prelude.{HandleParts, IsBytes, Entry, demand, Handle}
+use Rattle.sstable_blocks.specs.Results.{◌>>=◌, Error, BadHandle}
 use Rattle.sst_parts.specs.PartChecks.{ForParted, IsPartedSummary, check_bytes, check_file, check_part, check_parted, check_parts, summary_of_parts}
 use Rattle.sst_parts.specs.Parts.{IsParted, tops_at}
 use Rattle.sst_parts.specs.declared.checking.PartedSummary.{PartedSummary}

@@ -2,18 +2,8 @@
 use Rattle.std.proofs.Common.{◌≡◌, ℕ, zero, suc, ◌+◌, ◌<◌, ◌≤◌, ◌^◌, List, [], ◌∷◌, length, refl, sym, ◌∙◌, ap, subst, Option, Some, None, Ok}
 use Rattle.std.specs.List.{AllZip, slice_get}
 use Rattle.std.specs.Option.{option_map}
-use Rattle.sst_base.specs.BlockHandle.{HandleParts}
-use Rattle.sst_base.specs.Counted.{Counted, CountsBetween}
-use Rattle.sst_base.specs.Entry.{Entry}
-use Rattle.sst_base.specs.declared.table.block.block_type.BlockType.TheVariants as types
-use Rattle.sst_block_core.specs.Checks.{index_check, IndexVerdict}
-use Rattle.sst_block_core.specs.Entries.{entries}
-use Rattle.sst_block_core.specs.Handles.{Handle, handles, IsIndexBlock, IndexPasses}
-use Rattle.sst_block_core.specs.Kind.{IsOrdered}
-use Rattle.sst_block_core.specs.Stages.{items_in}
-use Rattle.sst_block_core.specs.Trailer.{trailer_in}
-use Rattle.sst_block_core.specs.Window.{first_match}
-use Rattle.sst_block_core.specs.declared.table.data_block.parsed_item.DataBlockParsedItem.{DataBlockParsedItem}
+use Rattle.sstable_blocks.specs.Prelude.{HandleParts, Counted, CountsBetween, Entry, index_check, IndexVerdict, entries, Handle, handles, IsIndexBlock, IndexPasses, IsOrdered, items_in, trailer_in, first_match, DataBlockParsedItem}
+use Rattle.sstable_blocks.specs.BlockTypes as types
 use Rattle.sst_parts.specs.PartFinds.{FoundPart, IsReadIndex}
 use Rattle.sst_parts.specs.Parts.{IsParted, IsStoredPart, most_by_places, part_in, places_in, tops_at}
 use Rattle.sst_parts.proofs.Reading.Openings.{part_ends}

@@ -1,8 +1,7 @@
 -- What a check of a parted table counts, part by part, is the summary of its parts.
 use Rattle.std.proofs.Common.{◌≡◌, ℕ, suc, ◌+◌, ◌-◌, ◌≤◌, ◌^◌, min, max, List, [], ◌∷◌, ◌++◌, length, refl, arith, sym, ◌∙◌, ap, Option, Some, None, append_assoc, append-nil, length-append}
 use Rattle.std.specs.List.{AllZip}
-use Rattle.sst_base.specs.Entry.{Entry}
-use Rattle.sst_block_core.specs.Handles.{Handle}
+use Rattle.sstable_blocks.specs.Prelude.{Entry, Handle}
 use Rattle.sst_parts.specs.PartChecks.{no_parts, passed_on, whole_of, whole_with}
 use Rattle.sst_parts.specs.Parts.{IsStoredPart, part_in}
 use Rattle.sst_parts.specs.declared.checking.Passed.{Passed}

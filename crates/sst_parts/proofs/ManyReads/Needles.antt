@@ -1,12 +1,9 @@
 -- Reads of many needles, one after the other.
 use Rattle.std.proofs.Common.{◌≡◌, ℕ, zero, suc, ◌+◌, ◌<◌, ◌≤◌, List, [], ◌∷◌, ◌++◌, length, map, take, drop, get_or, refl, arith, sym, ◌∙◌, ap, subst, drop-cons, inl, inr, Option, Some, None, IfSome, Result, Ok, Err}
 use Rattle.std.proofs.lemmas.List.{take-append-drop}
-use Rattle.sst_base.specs.Entry.{Entry}
-use Rattle.sst_base.specs.Header.{◌>>=◌}
-use Rattle.sst_base.specs.HeaderLaws.{bind_ok}
-use Rattle.sst_base.specs.declared.error.Error.{Error}
-use Rattle.sst_base.specs.declared.error.Error.TheVariants.{BadHandle, Memory}
-use Rattle.sst_block_core.specs.DataBlock.{DataBlockParts}
+use Rattle.sstable_blocks.specs.Prelude.{Entry, DataBlockParts}
+use Rattle.sstable_blocks.specs.Results.{◌>>=◌, Error, BadHandle, Memory}
+use Rattle.sstable_blocks.specs.BlockLaws.{bind_ok}
 use Rattle.sst_parts.specs.ManyReads.{IsLastBlock, IsOpened, block_frames, index_after, last_index, located, many_frames, place_of, read_each}
 use Rattle.sst_parts.specs.declared.many.Needle.{Needle}
 use Rattle.sstable_blocks.specs.RunReading.{Hashes, read_checked}

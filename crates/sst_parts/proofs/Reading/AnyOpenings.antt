@@ -1,17 +1,16 @@
 -- A file that is no plain table is opened as a parted one.
-use Rattle.std.proofs.Common.{◌≡◌, ℕ, inl, inr, ◌<◌, ◌≤◌, List, Option, Some, None, IfSome, Result, Ok, Err, arith, sym, ◌∙◌, ap, subst}
+use Rattle.std.proofs.Common.{◌≡◌, ◌≢◌, ℕ, inl, inr, ◌<◌, ◌≤◌, List, Option, Some, None, IfSome, Result, Ok, Err, arith, sym, ◌∙◌, ap, subst}
 use Rattle.std.specs.Prelude.{MatchResult}
-use Rattle.sst_base.specs.BlockHandle.{HandleParts}
-use Rattle.sst_base.specs.declared.error.Error.{Error}
-use Rattle.sst_base.specs.declared.error.Error.TheVariants.{BadHandle, InvalidTag, Io, Memory, Truncated}
-use Rattle.sst_block_core.specs.Handles.{Handle}
-use Rattle.sst_parts.specs.AnyTables.{AnyKept, IsOtherType, IsPartedOf, any_by_footer, kept_in, or_parted}
-use Rattle.sst_parts.specs.Parts.{tops_by_footer}
+use Rattle.sstable_blocks.specs.Prelude.{HandleParts, Handle}
+use Rattle.sstable_blocks.specs.Results.{Error, BadHandle, InvalidTag, Io, Memory, Truncated}
+use Rattle.sst_parts.specs.AnyTables.{AnyKept, IsOtherType, IsPartedOf, any_by_footer, any_frames, frames_more, kept_in, or_parted}
+use Rattle.sst_parts.specs.Parts.{tops_by_footer, tops_frames}
 use Rattle.sst_parts.specs.declared.any_table.AnyTable.{AnyTable}
 use Rattle.sst_parts.specs.declared.any_table.AnyTable.TheVariants.{Plain, Parted}
+use Rattle.sstable_blocks.specs.FrameCounts.{file_frames}
 use Rattle.sstable_blocks.specs.RunReading.{Hashes}
 use Rattle.sstable_blocks.specs.SourceLaws.{source_fails}
-use Rattle.sstable_blocks.specs.Sources.{FailsAs}
+use Rattle.sstable_blocks.specs.Sources.{AsksFor, FailsAs}
 use Rattle.sstable_blocks.specs.Tables.{kept_by_footer}
 use Rattle.sstable_blocks.specs.declared.run.RunHandles.{RunHandles}
 use Rattle.sstable_blocks.specs.declared.run.table.OpenError.{OpenError}
@@ -61,3 +60,56 @@ module _ {H S : Type 0} (c : Hashes) (failures : S → ℕ) (is_reliable : S →
   opened_in_parts (Some all) o' result same plain parted =
       let h = subst (λ p. IfSome p (λ bytes. OpensParted bytes result)) same parted in
       one all result (other_type failed.error (failures source < failures failed.source) (is_reliable source) (kept_by_footer c all) plain other) h
+
+-- where no frame is of another type, no more are asked for than for a plain table
+no_more : (e : Error) (n : ℕ) (read : Plainly) → (IsOtherType e → ⊥) → read ≡ Err e → frames_more read n ≡ 0
+no_more (InvalidTag name tag) n read other is = absurd (other tt)
+no_more e n read other is = ap (λ r. frames_more r n) is
+
+so_many_more : (e : Error) (n : ℕ) (read : Plainly) → IsOtherType e → read ≡ Err e → frames_more read n ≡ n
+so_many_more (InvalidTag name tag) n read other is = ap (λ r. frames_more r n) is
+so_many_more e n read other is = absurd other
+
+not_memory : (e : Error) → IsOtherType e → e ≢ Memory
+not_memory (InvalidTag name tag) other = λ memory. cc
+not_memory e other = absurd other
+
+module _ (c : Hashes) (f f' a a' : ℕ) where
+  -- for a plain table so many are asked for as for that
+  pub plain_asked : (b : Option (List ℕ)) (k : RunHandles × Option (List ℕ) × List Handle) (P : Type 0) → IfSome b (λ all. kept_by_footer c all ≡ Ok k) → IfSome b (λ all. AsksFor f f' a a' P (file_frames c all))
+      → IfSome b (λ all. AsksFor f f' a a' P (any_frames c all))
+  plain_asked None k P kept asked = tt
+  plain_asked (Some all) k P kept asked =
+      let none : frames_more (kept_by_footer c all) (tops_frames all) ≡ 0 = ap (λ r. frames_more r (tops_frames all)) kept in
+      let most = asked.0 in (omega (arith, most), λ same other. let whole = asked.1 same other in omega (arith, whole, none))
+
+  -- so they are for what is refused by something else
+  pub refused_asked : (b : Option (List ℕ)) (R : Type 0) (e : Error) → (IsOtherType e → ⊥) → IfSome b (λ all. FailsAs (f < f') R (kept_by_footer c all) e) → IfSome b (λ all. AsksFor f f' a a' (e ≢ Memory) (file_frames c all))
+      → IfSome b (λ all. AsksFor f f' a a' (e ≢ Memory) (any_frames c all))
+  refused_asked None R e other fails asked = tt
+  refused_asked (Some all) R e other fails asked = (
+    let most = asked.0 in omega (arith, most),
+    λ same no_memory. elim (fails no_memory) [
+      | inl failure ↦ absurd (let less = failure.0 in omega (arith, less, same))
+      | inr is ↦
+          let whole = asked.1 same no_memory in
+          let none = no_more e (tops_frames all) (kept_by_footer c all) other is in
+          omega (arith, whole, none)
+    ],
+  )
+
+  -- and for a parted table those for that are more
+  pub parted_asked : (b b' : Option (List ℕ)) (f'' a'' : ℕ) (R : Type 0) (e : Error) (P : Type 0) → b' ≡ b → f ≤ f' → f' ≤ f'' → IsOtherType e → IfSome b (λ all. FailsAs (f < f') R (kept_by_footer c all) e)
+      → IfSome b (λ all. AsksFor f f' a a' (e ≢ Memory) (file_frames c all)) → IfSome b' (λ all. AsksFor f' f'' a' a'' P (tops_frames all)) → IfSome b (λ all. AsksFor f f'' a a'' P (any_frames c all))
+  parted_asked None b' f'' a'' R e P same grow grow' other fails asked next = tt
+  parted_asked (Some all) b' f'' a'' R e P same grow grow' other fails asked next =
+      let more = so_many_more e (tops_frames all) (kept_by_footer c all) other (other_type e (f < f') R (kept_by_footer c all) fails other) in
+      let then_asked = subst (λ o. IfSome o (λ bytes. AsksFor f' f'' a' a'' P (tops_frames bytes))) same next in
+      let most = asked.0 in
+      let most' = then_asked.0 in (
+        omega (arith, most, most', more),
+        λ none_failed p.
+            let whole = asked.1 (omega (arith, none_failed, grow, grow')) (not_memory e other) in
+            let whole' = then_asked.1 (omega (arith, none_failed, grow, grow')) p in
+            omega (arith, whole, whole', more),
+      )

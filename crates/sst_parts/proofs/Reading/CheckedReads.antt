@@ -1,19 +1,14 @@
 -- Reading frames of any bytes: which errors do not come, and what a filter says.
 use Rattle.std.proofs.Common.{◌≡◌, ℕ, ◌<◌, ◌≤◌, List, arith, refl, sym, ap, subst, ◌∙◌, inl, inr, Option, Some, None, Result, Ok, Err, IfSome}
-use Rattle.sst_base.specs.declared.error.Error.{Error}
 use Rattle.std.specs.Option.{option_map}
-use Rattle.sst_base.specs.BlockHandle.{HandleParts}
-use Rattle.sst_base.specs.declared.table.block.block_type.BlockType.TheVariants as types
-use Rattle.sst_block_core.specs.Handles.{handles}
+use Rattle.sstable_blocks.specs.Results.{Error, ◌>>=◌}
+use Rattle.sstable_blocks.specs.Prelude.{HandleParts, handles, Entry, index_check, Handle}
+use Rattle.sstable_blocks.specs.BlockTypes as types
 use Rattle.sstable_blocks.specs.Lookup.{handle_for}
 use Rattle.sstable_blocks.specs.Opened.{range_of}
 use Rattle.sstable_blocks.specs.RunReading.{Hashes, handles_at, payload_at, read_block, read_blocks}
 use Rattle.sstable_blocks.specs.SourceLaws.{source_fails}
 use Rattle.sstable_blocks.specs.Sources.{FailsAs, GivesOr}
-use Rattle.sst_base.specs.Entry.{Entry}
-use Rattle.sst_block_core.specs.Checks.{index_check}
-use Rattle.sst_block_core.specs.Handles.{Handle}
-use Rattle.sst_base.specs.Header.{◌>>=◌}
 use Rattle.sstable_blocks.specs.CheckedLaws.{gives_or_later}
 use Rattle.sstable_blocks.specs.KeptLaws.{blocks_same}
 

@@ -1,10 +1,7 @@
 -- What a read of a part counts, in terms of the part's bytes.
 use Rattle.std.proofs.Common.{◌≡◌, ℕ, List, length, arith, subst, Option, Some, None, IfSome}
 use Rattle.std.specs.Option.{option_map}
-use Rattle.sst_base.specs.BlockHandle.{HandleParts}
-use Rattle.sst_base.specs.Counted.{Counted, CountsBetween}
-use Rattle.sst_block_core.specs.Handles.{Handle, handles}
-use Rattle.sst_block_core.specs.Intervals.{digits}
+use Rattle.sstable_blocks.specs.Prelude.{HandleParts, Counted, CountsBetween, Handle, handles, digits}
 use Rattle.sstable_blocks.specs.Lookup.{handle_for}
 use Rattle.sstable_blocks.specs.Opened.{index_in, range_of}
 use Rattle.sstable_blocks.specs.ReadCosts.{entries_at, find_cost, heads_at, interval_in, most_by}

@@ -1,10 +1,8 @@
 -- Opening a parted table by the footer of its file.
 use Rattle.std.proofs.Common.{◌≡◌, ℕ, List, sym, ◌∙◌, ap, subst, inl, inr, Option, Some, None, IfSome, IfOk, Result, Ok, Err}
 use Rattle.std.specs.Prelude.{MatchResult}
-use Rattle.sst_base.specs.BlockHandle.{HandleParts}
-use Rattle.sst_base.specs.Header.{◌>>=◌}
-use Rattle.sst_base.specs.declared.error.Error.{Error}
-use Rattle.sst_block_core.specs.Handles.{Handle}
+use Rattle.sstable_blocks.specs.Prelude.{HandleParts, Handle}
+use Rattle.sstable_blocks.specs.Results.{◌>>=◌, Error}
 use Rattle.sst_parts.specs.Parts.{tops_at, tops_by_footer}
 use Rattle.sstable_blocks.specs.Footer.{table_handles}
 use Rattle.sstable_blocks.specs.RunReading.{Hashes}

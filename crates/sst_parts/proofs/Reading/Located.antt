@@ -4,17 +4,10 @@ use Rattle.std.specs.List.{slice_get}
 use Rattle.std.specs.Prelude.{IsOkUnless, nat_lt}
 use Rattle.std.proofs.lemmas.Bool.{cases_Bool, ltb-false}
 use Rattle.std.proofs.lemmas.Option.{slice_get_past}
-use Rattle.sst_base.specs.Entry.{Entry}
-use Rattle.sst_base.specs.Header.{◌>>=◌}
-use Rattle.sst_base.specs.HeaderLaws.{bind_ok}
-use Rattle.sst_base.specs.declared.error.Error.{Error}
-use Rattle.sst_base.specs.declared.error.Error.TheVariants.{Memory}
-use Rattle.sst_base.specs.declared.table.block.block_type.BlockType.TheVariants as types
-use Rattle.sst_block_core.specs.Checks.{data_check}
-use Rattle.sst_block_core.specs.DataBlock.{DataBlockParts}
-use Rattle.sst_block_core.specs.Entries.{entries}
-use Rattle.sst_block_core.specs.Handles.{Handle, handles}
-use Rattle.sst_block_core.specs.Window.{first_match}
+use Rattle.sstable_blocks.specs.Prelude.{Entry, data_check, DataBlockParts, entries, Handle, handles, first_match}
+use Rattle.sstable_blocks.specs.Results.{◌>>=◌, Error, Memory}
+use Rattle.sstable_blocks.specs.BlockLaws.{bind_ok}
+use Rattle.sstable_blocks.specs.BlockTypes as types
 use Rattle.sst_parts.specs.ManyReads.{IsOpenAt, block_place, located, read_at}
 use Rattle.sstable_blocks.specs.KeptLaws.{blocks_same}
 use Rattle.sstable_blocks.specs.Lookup.{handle_for, place_for}

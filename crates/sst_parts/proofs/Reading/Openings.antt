@@ -1,9 +1,7 @@
 -- Frames in ranges, and the ends of parts.
 use Rattle.std.proofs.Common.{ℕ, List, [], ◌∷◌}
 use Rattle.std.specs.List.{AllZip}
-use Rattle.sst_base.specs.Entry.{Entry}
-use Rattle.sst_block_core.specs.Entries.{entries}
-use Rattle.sst_block_core.specs.Handles.{Handle, handles}
+use Rattle.sstable_blocks.specs.Prelude.{Entry, entries, Handle, handles}
 use Rattle.sst_parts.specs.Parts.{IsStoredPart}
 use Rattle.sstable_blocks.specs.Blocks.{joined}
 use Rattle.sstable_blocks.specs.Lookup.{IsEnd}

@@ -4,19 +4,9 @@ use Rattle.std.proofs.lemmas.Bool.{le-leb}
 use Rattle.std.proofs.lemmas.List.{drop-take, drop-drop, length-take-le, length-drop}
 use Rattle.std.specs.List.{AllZip, slice_get}
 use Rattle.std.specs.Option.{option_map}
-use Rattle.sst_base.specs.BlockHandle.{HandleParts}
-use Rattle.sst_base.specs.Entry.{Entry}
-use Rattle.sst_base.specs.Header.{◌>>=◌}
-use Rattle.sst_base.specs.declared.error.Error.{Error}
-use Rattle.sst_base.specs.declared.error.Error.TheVariants.{BadHandle}
-use Rattle.sst_base.specs.declared.table.block.block_type.BlockType.TheVariants as types
-use Rattle.sst_block_core.specs.Entries.{entries}
-use Rattle.sst_block_core.specs.Kind.{IsOrdered}
-use Rattle.sst_block_core.specs.Stages.{items_in}
-use Rattle.sst_block_core.specs.Trailer.{trailer_in}
-use Rattle.sst_block_core.specs.Window.{first_match}
-use Rattle.sst_block_core.specs.Checks.{index_check, IndexVerdict}
-use Rattle.sst_block_core.specs.Handles.{Handle, handles, IsIndexBlock, IndexPasses, IndexPassesBy}
+use Rattle.sstable_blocks.specs.Prelude.{HandleParts, Entry, entries, IsOrdered, items_in, trailer_in, first_match, index_check, IndexVerdict, Handle, handles, IsIndexBlock, IndexPasses, IndexPassesBy}
+use Rattle.sstable_blocks.specs.Results.{◌>>=◌, Error, BadHandle}
+use Rattle.sstable_blocks.specs.BlockTypes as types
 use Rattle.sst_parts.specs.Parts.{IsParted, IsStoredPart, IsStoredTop, part_in, places_in, read_by_top, read_part, tops_at, tops_by_footer}
 use Rattle.sst_parts.specs.PartWriting.{IsPartedFile, top_handles}
 use Rattle.sst_parts.proofs.Reading.FileOpenings.{by_handles}

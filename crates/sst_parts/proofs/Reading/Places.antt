@@ -5,11 +5,8 @@ use Rattle.std.proofs.lemmas.Bool.{cases_Bool}
 use Rattle.std.proofs.lemmas.Bool.Decides.{nat_tests}
 use Rattle.std.specs.List.{AllByRecursion, slice_get}
 use Rattle.std.specs.Option.{option_map}
-use Rattle.sst_base.specs.BlockHandle.{HandleParts}
-use Rattle.sst_base.specs.Header.{◌>>=◌}
-use Rattle.sst_base.specs.declared.error.Error.{Error}
-use Rattle.sst_base.specs.declared.error.Error.TheVariants.{Truncated, BadHandle}
-use Rattle.sst_block_core.specs.Handles.{Handle, handles, EndFits, IsIndexBlock}
+use Rattle.sstable_blocks.specs.Prelude.{HandleParts, Handle, handles, EndFits, IsIndexBlock}
+use Rattle.sstable_blocks.specs.Results.{◌>>=◌, Error, Truncated, BadHandle}
 use Rattle.sst_parts.specs.Parts.{part_footer, places_in}
 use Rattle.sstable_blocks.specs.Footer.{footer_handles}
 use Rattle.sstable_blocks.specs.Lookup.{handle_for, place_for}

@@ -4,12 +4,9 @@ use Rattle.std.specs.Prelude.{nat_le}
 use Rattle.std.proofs.lemmas.Bool.Decides.{nat_tests}
 use Rattle.std.proofs.lemmas.List.{drop-take, drop-drop, take-take, length-take-le, length-drop}
 use Rattle.std.specs.Option.{option_map}
-use Rattle.sst_base.specs.BlockHandle.{HandleParts}
-use Rattle.sst_base.specs.Bytes.{IsBytes}
-use Rattle.sst_base.specs.BytesLaws.{IsBytes-take, IsBytes-drop}
-use Rattle.sst_base.specs.Header.{◌>>=◌}
-use Rattle.sst_base.specs.declared.error.Error.{Error}
-use Rattle.sst_base.specs.declared.error.Error.TheVariants.{BadHandle}
+use Rattle.sstable_blocks.specs.Prelude.{HandleParts, IsBytes}
+use Rattle.sstable_blocks.specs.BlockLaws.{IsBytes-take, IsBytes-drop}
+use Rattle.sstable_blocks.specs.Results.{◌>>=◌, Error, BadHandle}
 use Rattle.sst_parts.specs.Parts.{part_in}
 use Rattle.sstable_blocks.specs.RunReading.{range_at}
 use Rattle.sstable_blocks.specs.Sources.{FailsAs, GivesOr}

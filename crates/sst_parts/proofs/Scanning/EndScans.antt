@@ -1,10 +1,8 @@
 -- The scan of a part in memory: how it begins, and its steps.
 use Rattle.std.proofs.Common.{◌≡◌, inl, inr, ℕ, ◌-◌, ◌<◌, ◌≤◌, ◌^◌, List, [], ◌∷◌, length, reverse, drop, arith, sym, ◌∙◌, ap, subst, append-nil, Option, Some, None, Result, Ok, Err}
 use Rattle.std.proofs.lemmas.List.{reverse-append, length-take, length-drop}
-use Rattle.sst_base.specs.Entry.{Entry}
-use Rattle.sst_base.specs.declared.error.Error.{Error}
-use Rattle.sst_base.specs.declared.error.Error.TheVariants.{Memory}
-use Rattle.sst_block_core.specs.Handles.{Handle}
+use Rattle.sstable_blocks.specs.Prelude.{Entry, Handle}
+use Rattle.sstable_blocks.specs.Results.{Error, Memory}
 use Rattle.sst_parts.specs.PartScans.{file_reads, kept_reads}
 use Rattle.sstable_blocks.specs.RunReading.{Hashes}
 use Rattle.sstable_blocks.specs.Scans.{GivesFirst, GivesLast, KeyRange, Read, ScanParts, blocks_read, first_block, end_block, handles_within, most_left, reads_among, reads_left}

@@ -1,10 +1,8 @@
 -- Steps of a scan of a parted table.
 use Rattle.std.proofs.Common.{◌≡◌, inl, inr, ℕ, Bool, true, false, List, [], ◌∷◌, ◌++◌, map, reverse, sym, ◌∙◌, ap, subst, append-nil, append_assoc, Option, Some, None, IfSome, Result, Ok, Err}
 use Rattle.std.proofs.lemmas.List.{reverse-append, reverse-reverse}
-use Rattle.sst_base.specs.Entry.{Entry, plain}
-use Rattle.sst_base.specs.declared.error.Error.{Error}
-use Rattle.sst_base.specs.declared.error.Error.TheVariants.{BadHandle}
-use Rattle.sst_block_core.specs.Handles.{Handle}
+use Rattle.sstable_blocks.specs.Prelude.{Entry, plain, Handle}
+use Rattle.sstable_blocks.specs.Results.{Error, BadHandle}
 use Rattle.sst_parts.specs.Parts.{IsParted, PartedParts, tops_at}
 use Rattle.sst_parts.specs.PartScans.{OpensNext, PartScanParts, ScanEndParts, ScansParted, near_left, parts_left, parts_read}
 use Rattle.sstable_blocks.specs.BlockReading.{seen_from}

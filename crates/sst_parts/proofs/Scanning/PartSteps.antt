@@ -1,12 +1,8 @@
 -- Reading a part by its footer.
 use Rattle.std.proofs.Common.{◌≡◌, ℕ, ◌<◌, ◌≤◌, List, length, arith, sym, ◌∙◌, ap, subst, inl, inr, Option, Some, None, IfSome, Result, Ok}
 use Rattle.std.specs.Option.{option_map}
-use Rattle.sst_base.specs.BlockHandle.{HandleParts}
-use Rattle.sst_base.specs.Counted.{Counted, CountsBetween}
-use Rattle.sst_base.specs.Entry.{Entry}
-use Rattle.sst_base.specs.Header.{◌>>=◌}
-use Rattle.sst_base.specs.declared.error.Error.{Error}
-use Rattle.sst_block_core.specs.Handles.{Handle, handles}
+use Rattle.sstable_blocks.specs.Prelude.{HandleParts, Counted, CountsBetween, Entry, Handle, handles}
+use Rattle.sstable_blocks.specs.Results.{◌>>=◌, Error}
 use Rattle.sst_parts.specs.Parts.{most_by_places, part_in, part_most, parted_most, places_in, read_by_top, read_part}
 use Rattle.sstable_blocks.specs.Lookup.{handle_for}
 use Rattle.sstable_blocks.specs.Opened.{range_of}

@@ -2,17 +2,9 @@
 use Rattle.std.proofs.Common.{◌≡◌, ℕ, ◌+◌, ◌<◌, ◌^◌, cond, List, [], ◌∷◌, length, map, refl, arith, sym, ◌∙◌, ap, subst, Option, Some, None, IfSome, Result, Ok, Err}
 use Rattle.std.proofs.lemmas.Bool.{le-leb}
 use Rattle.std.specs.List.{AllZip}
-use Rattle.sst_base.specs.BlockHandle.{HandleParts}
-use Rattle.sst_base.specs.Entry.{Entry, plain}
-use Rattle.sst_base.specs.declared.error.Error.{Error}
-use Rattle.sst_base.specs.declared.error.Error.TheVariants.{BadHandle}
-use Rattle.sst_base.specs.declared.table.block.block_type.BlockType.TheVariants as types
-use Rattle.sst_block_core.specs.Checks.{index_check, IndexVerdict}
-use Rattle.sst_block_core.specs.Entries.{entries}
-use Rattle.sst_block_core.specs.Handles.{Handle, handles, IsIndexBlock, IndexPasses}
-use Rattle.sst_block_core.specs.Kind.{IsOrdered}
-use Rattle.sst_block_core.specs.Stages.{items_in}
-use Rattle.sst_block_core.specs.Trailer.{trailer_in}
+use Rattle.sstable_blocks.specs.Prelude.{HandleParts, Entry, plain, index_check, IndexVerdict, entries, Handle, handles, IsIndexBlock, IndexPasses, IsOrdered, items_in, trailer_in}
+use Rattle.sstable_blocks.specs.Results.{Error, BadHandle}
+use Rattle.sstable_blocks.specs.BlockTypes as types
 use Rattle.sst_parts.specs.Parts.{IsParted, IsStoredPart, part_in, tops_at}
 use Rattle.sst_parts.specs.PartScans.{bytes_reads, kept_reads, part_reads, parts_read}
 use Rattle.sst_parts.proofs.Writing.Joins.{joined-map, zip-map}

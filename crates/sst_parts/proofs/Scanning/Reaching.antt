@@ -3,9 +3,8 @@ use Rattle.std.proofs.Common.{◌≡◌, ◌≢◌, inl, inr, ℕ, min, ◌+◌,
 use Rattle.std.specs.Prelude.{MatchResult}
 use Rattle.std.proofs.lemmas.List.{reverse-append}
 use Rattle.std.specs.List.{slice_get}
-use Rattle.sst_base.specs.declared.error.Error.{Error}
-use Rattle.sst_base.specs.declared.error.Error.TheVariants.{BadHandle, Memory}
-use Rattle.sst_block_core.specs.Handles.{Handle}
+use Rattle.sstable_blocks.specs.Results.{Error, BadHandle, Memory}
+use Rattle.sstable_blocks.specs.Prelude.{Handle}
 use Rattle.sst_parts.specs.Parts.{PartedParts}
 use Rattle.sst_parts.specs.PartScans.{OpensNext, ScanEndParts, UnreachedParts, bytes_reads, file_reads, near_left, near_most, part_reads, parts_read}
 use Rattle.sstable_blocks.specs.BetweenLaws.{first_between, last_between}

@@ -6,10 +6,7 @@ use Rattle.std.proofs.lemmas.List.{append-nil}
 use Rattle.std.proofs.lemmas.List.Sums.{sum_by-append}
 use Rattle.std.specs.Prelude.{nat_le}
 use Rattle.std.specs.declared.cmp.Ordering.{Ordering}
-use Rattle.sst_base.specs.Entry.{Entry}
-use Rattle.sst_base.specs.Order.{IsInOrder}
-use Rattle.sst_block_core.specs.Entries.{entries}
-use Rattle.sst_block_core.specs.Kind.{IsOrdered, item_cmp}
+use Rattle.sstable_blocks.specs.Prelude.{Entry, IsInOrder, entries, IsOrdered, item_cmp}
 use Rattle.sst_parts.specs.PartWriting.{ClosedView, IsEndOf, IsLastOf, IsNextPart, IsOpenPart, data_len, is_full, reaches}
 use Rattle.sst_parts.specs.declared.closed.PartEnd.{PartEnd}
 use Rattle.sst_parts.specs.declared.writer.PartSizes.{PartSizes}

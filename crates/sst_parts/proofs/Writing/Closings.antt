@@ -5,16 +5,9 @@ use Rattle.std.proofs.Math.Seq.{drop-length}
 use Rattle.std.proofs.lemmas.List.{append-nil, map-append, take-append-drop}
 use Rattle.std.specs.Io.KnownBytes.{Appends}
 use Rattle.std.specs.List.{AllByRecursion, AllZip}
-use Rattle.sst_base.specs.BlockHandle.{HandleParts}
-use Rattle.sst_base.specs.Entry.{Entry}
-use Rattle.sst_base.specs.Frame.{frame}
-use Rattle.sst_base.specs.declared.error.Error.{Error}
-use Rattle.sst_base.specs.declared.error.Error.TheVariants.{Io, TooLong}
-use Rattle.sst_base.specs.declared.table.block.block_type.BlockType.TheVariants.{Meta}
-use Rattle.sst_block_core.specs.Encoders.{IsRefusal}
-use Rattle.sst_block_core.specs.Entries.{entries}
-use Rattle.sst_block_core.specs.Handles.{Handle, handles, IsIndexBlock, index_payload}
-use Rattle.sst_block_core.specs.Kind.{IsOrdered}
+use Rattle.sstable_blocks.specs.Prelude.{HandleParts, Entry, frame, IsRefusal, entries, Handle, handles, IsIndexBlock, index_payload, IsOrdered}
+use Rattle.sstable_blocks.specs.Results.{Error, Io, TooLong}
+use Rattle.sstable_blocks.specs.BlockTypes.{Meta}
 use Rattle.sst_parts.specs.PartWriting.{AppendsPart, AppendsParted, AppendsTop, AreClosed, ArePartFiles, IsLastOf, IsPartFile, PartFileFits, TopFits, top_handles}
 use Rattle.sst_parts.proofs.Writing.Joins.{joined-append, joined-map, zip-map}
 use Rattle.sstable_blocks.specs.EndLaws.{all_push, ends_in_order}

@@ -2,12 +2,9 @@
 use Rattle.std.proofs.Common.{◌≡◌, ℕ, ◌+◌, ◌<◌, ◌≤◌, ◌^◌, List, [], ◌∷◌, ◌++◌, length, take, drop, refl, arith, sym, ◌∙◌, ap, subst, append_assoc, length-append, Option, Some, None, IfSome, Ok}
 use Rattle.std.proofs.lemmas.List.{drop_at, take_at}
 use Rattle.std.specs.List.{AllZip}
-use Rattle.sst_base.specs.BlockHandle.{HandleParts}
-use Rattle.sst_base.specs.Entry.{Entry}
-use Rattle.sst_base.specs.Frame.{frame}
-use Rattle.sst_base.specs.FrameLaws.{length-frame}
-use Rattle.sst_base.specs.declared.table.block.block_type.BlockType.TheVariants as types
-use Rattle.sst_block_core.specs.Handles.{Handle, index_payload}
+use Rattle.sstable_blocks.specs.Prelude.{HandleParts, Entry, frame, Handle, index_payload}
+use Rattle.sstable_blocks.specs.BlockLaws.{length-frame}
+use Rattle.sstable_blocks.specs.BlockTypes as types
 use Rattle.sstable_blocks.specs.Blocks.{joined}
 use Rattle.sstable_blocks.specs.Footer.{footer, table_handles}
 use Rattle.sstable_blocks.specs.Run.{Form, IsLayout}

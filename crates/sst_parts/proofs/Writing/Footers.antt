@@ -1,8 +1,7 @@
 -- Footers of parts.
 use Rattle.std.proofs.Common.{◌≡◌, ℕ, ◌-◌, ◌≤◌, List, length, drop, cond, ltb, refl, arith, sym, ◌∙◌, ap, length-drop, inl, inr, Result, Ok, Err}
 use Rattle.std.proofs.lemmas.Bool.{cases_Bool, ltb-false}
-use Rattle.sst_base.specs.declared.error.Error.{Error}
-use Rattle.sst_base.specs.declared.error.Error.TheVariants.{Truncated}
+use Rattle.sstable_blocks.specs.Results.{Error, Truncated}
 use Rattle.sstable_blocks.specs.Footer.{table_handles, footer_handles, parts_at, filter_of}
 use Rattle.sstable_blocks.specs.declared.run.RunHandles.{RunHandles}
 

@@ -5,10 +5,8 @@ use Rattle.std.proofs.lemmas.List.{length-drop, drop-append-le, take-append-le, 
 use Rattle.std.specs.List.{AllZip}
 use Rattle.byteorder.specs.Endian.{little_bytes, little_number}
 use Rattle.byteorder.specs.Numbers.{little_number-reads_back}
-use Rattle.sst_base.specs.BlockHandle.{HandleParts}
-use Rattle.sst_base.specs.Entry.{Entry}
-use Rattle.sst_base.specs.declared.table.block.block_type.BlockType.{BlockType}
-use Rattle.sst_block_core.specs.Handles.{Handle}
+use Rattle.sstable_blocks.specs.Prelude.{HandleParts, Entry, Handle}
+use Rattle.sstable_blocks.specs.BlockTypes.{BlockType}
 use Rattle.sstable_blocks.specs.Blocks.{joined}
 use Rattle.sstable_blocks.specs.Footer.{footer, footer_handles, parts_at, parts_bytes, parts_of, filter_of, table_handles}
 use Rattle.sstable_blocks.specs.RunReading.{Hashes, IsFramedAt}

@@ -1,11 +1,7 @@
 -- What a read returns of a partitioned table.
 use Rattle.std.proofs.Common.{◌≡◌, ℕ, List, sym, ◌∙◌, Option, Some, None, IfSome, Result, Ok, Err}
-use Rattle.sst_base.specs.BlockHandle.{HandleParts}
-use Rattle.sst_base.specs.Entry.{Entry}
-use Rattle.sst_base.specs.declared.error.Error.{Error}
-use Rattle.sst_block_core.specs.Entries.{entries}
-use Rattle.sst_block_core.specs.Window.{first_match}
-use Rattle.sst_block_core.specs.Handles.{Handle, handles}
+use Rattle.sstable_blocks.specs.Prelude.{HandleParts, Entry, entries, first_match, Handle, handles}
+use Rattle.sstable_blocks.specs.Results.{Error}
 use Rattle.sst_parts.specs.Parts.{FindsInParts, IsParted, read_by_top, tops_at}
 use Rattle.sstable_blocks.specs.Blocks.{joined}
 use Rattle.sstable_blocks.specs.Lookup.{handle_for}

@@ -11,14 +11,13 @@ use Rattle.std.proofs.lemmas.Slice.Eq.{bytes_eq-Decides}
 use Rattle.hex.specs.Hex.{decode_of, is_hex_digit}
 use Rattle.hex.specs.declared.error.FromHexError.{FromHexError}
 use Rattle.hex.proofs.HexLemmas.{decode_of-ok}
-use Rattle.sst_base.specs.declared.value_type.ValueType.{ValueType}
-use Rattle.sst_base.specs.declared.value_type.ValueType.TheVariants.{Value, Tombstone, WeakTombstone, Indirection}
-use Rattle.sst_base.specs.Entry.{Entry, plain_value}
+use Rattle.sstable_blocks.specs.ValueTypes.{ValueType, Value, Tombstone, WeakTombstone, Indirection}
+use Rattle.sstable_blocks.specs.Prelude.{Entry, plain_value}
+use Rattle.sstable_blocks.specs.BlockLaws.{bind_some}
 use Rattle.sst_program.specs.Text.{IsNumberText, is_number_text, number_of, hex_bytes}
 use Rattle.sst_program.specs.Line.{letter_of, type_of_letter, type_of_letters, IsLineOf, Encodes, Lacks, cut_at, entry_within_limits, entry_of_parts, entry_of_line}
 use Rattle.sst_program.proofs.WordTexts.Numbers.{number_text-sound, number_of-some}
 use Rattle.sst_program.proofs.EntryTexts.EntryParts.{line-with_parts, parts-all, limits-kept}
-use Rattle.sst_base.specs.ReadingLaws.{bind_some}
 
 -- what a choice that ends well chose
 cond-some : {A : Type 0} (b : Bool) (x y : A) → cond b (Some x) None ≡ Some y → (b ≡ true) × (x ≡ y)

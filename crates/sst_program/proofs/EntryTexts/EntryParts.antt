@@ -2,8 +2,8 @@
 use Rattle.std.proofs.Common.{◌≡◌, ℕ, ◌<◌, ◌≤◌, ◌^◌, List, ◌∷◌, ◌++◌, length, arith, refl, true, false, Bool, ◌⊎◌}
 use Rattle.std.specs.Prelude.{Some, None, nat_eq, nat_le, nat_lt, ◌&&◌}
 use Rattle.std.proofs.lemmas.Bool.Decides.{nat_tests}
-use Rattle.sst_base.specs.declared.value_type.ValueType.{ValueType}
-use Rattle.sst_base.specs.Entry.{plain_value}
+use Rattle.sstable_blocks.specs.ValueTypes.{ValueType}
+use Rattle.sstable_blocks.specs.Prelude.{plain_value}
 use Rattle.sst_program.specs.Text.{number_of, hex_bytes}
 use Rattle.sst_program.specs.Line.{Lacks, type_of_letters, entry_within_limits, entry_of_parts, entry_of_line}
 use Rattle.sst_program.proofs.EntryTexts.Cuts.{cut-joined, cut-none}

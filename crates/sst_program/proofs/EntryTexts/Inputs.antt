@@ -10,7 +10,7 @@ use Rattle.std.specs.Io.Iter.{YieldsKnownPiece, YieldsWithout, split_known_bytes
 use Rattle.std.specs.declared.io.buffered.BufReader.{BufReader}
 use Rattle.std.specs.declared.io.Split.{Split}
 use Rattle.std.specs.Io.KnownBytes.{IsAtEnd, prepend_known}
-use Rattle.sst_base.specs.Entry.{Entry}
+use Rattle.sstable_blocks.specs.Prelude.{Entry}
 use Rattle.sst_program.specs.declared.fault.Fault.TheVariants.{Entry as NoEntry}
 use Rattle.sst_program.specs.Line.{Lacks, entry_of_line}
 use Rattle.sst_program.specs.Lines.{lines_of, entries_from, entries_of_input}

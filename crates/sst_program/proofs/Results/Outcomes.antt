@@ -3,17 +3,15 @@ use Rattle.std.proofs.Common.{◌≡◌, ℕ, ◌+◌, ◌<◌, ◌≤◌, ◌^�
 use Rattle.std.specs.Prelude.{Option, Some, None, Ok, Err, nat_lt, nat_eq}
 use Rattle.std.specs.Io.KnownBytes.{Keeps, Appends}
 use Rattle.std.proofs.KnownBytes.{Appends-nil, Appends-trans, Appends-kept}
+use Rattle.sstable_blocks.specs.Results.{Error, TooLong, Memory}
+use Rattle.sstable_blocks.specs.Prelude.{Entry, disorder_from}
 use Rattle.sst_program.specs.Line.{entry_line_of}
 use Rattle.std.proofs.lemmas.Bool.Decides.{nat_tests}
-use Rattle.sst_base.specs.declared.error.Error.{Error}
-use Rattle.sst_base.specs.declared.error.Error.TheVariants.{TooLong, Memory}
-use Rattle.sst_base.specs.Entry.{Entry}
 use Rattle.sst_program.specs.declared.fault.Fault.{Fault}
 use Rattle.sst_program.specs.declared.fault.Fault.TheVariants.{NoEntries, Order, Refused}
 use Rattle.sst_program.specs.Query.{Query}
 use Rattle.sst_program.specs.Lines.{entries_of_input}
 use Rattle.sst_program.specs.Point.{point_payload, point_text_of}
-use Rattle.sst_block_core.specs.Disorder.{disorder_from}
 use Rattle.sst_program.specs.Outcome.{fault_of_disorder, fault_of_items, run_of_input, outcome_of_items, outcome_of_query, IsOutcomeOf, IsFaultOf, lines_text_of, PrintsLines}
 
 pub fault-no_entries : (items : List Entry) → length items ≡ 0 → fault_of_items items ≡ Some NoEntries

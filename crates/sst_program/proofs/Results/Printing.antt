@@ -4,12 +4,8 @@ use Rattle.std.proofs.Common.{◌≡◌, ◌/◌, ◌%◌, true, ℕ, length, ar
 use Rattle.std.specs.Io.KnownBytes.{append_known}
 use Rattle.std.proofs.KnownBytes.{Appends-nil, Appends-trans}
 use Rattle.hex.specs.Hex.{encode_with, encode_lower, lower_digits}
-use Rattle.sst_base.specs.Entry.{Entry}
-use Rattle.sst_block_core.specs.Scan.{Scan, GivesScanned}
-use Rattle.sst_block_core.specs.Window.{Window, items_left, whole}
-use Rattle.sst_block_core.specs.WindowLaws.{next_some, next_none, items_left-whole}
-use Rattle.sst_block_core.specs.ParsedEntry.{entry_of, IsParsedEntry}
-use Rattle.sst_block_core.specs.declared.table.data_block.parsed_item.DataBlockParsedItem.{DataBlockParsedItem}
+use Rattle.sstable_blocks.specs.Prelude.{Entry, Scan, GivesScanned, Window, items_left, whole, entry_of, IsParsedEntry, DataBlockParsedItem}
+use Rattle.sstable_blocks.specs.BlockLaws.{next_some, next_none, items_left-whole}
 use Rattle.sst_program.specs.Line.{entry_line_of, letter_of, byte_text_of}
 use Rattle.sst_program.specs.Outcome.{Puts, lines_text_of}
 use Rattle.sst_program.proofs.Results.Outcomes.{none-from_test}

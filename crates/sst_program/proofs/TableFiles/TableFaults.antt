@@ -3,15 +3,11 @@ use Rattle.std.proofs.Common.{◌≡◌, ◌≢◌, ◌≤◌, ℕ, inl, inr, Li
 use Rattle.std.specs.Result.{IsErrAnd}
 use Rattle.std.specs.Io.KnownBytes.{Appends}
 use Rattle.std.proofs.KnownBytes.{Appends-nil}
+use Rattle.sstable_blocks.specs.Prelude.{HandleParts, Entry, Handle}
+use Rattle.sstable_blocks.specs.Results.{◌>>=◌, Error, Io, Memory, BadHandle}
 use Rattle.sstable_blocks.specs.Blocks.{joined}
 use Rattle.sstable_blocks.specs.Footer.{table_handles}
 use Rattle.sst_program.specs.Outcome.{lines_text_of}
-use Rattle.sst_base.specs.BlockHandle.{HandleParts}
-use Rattle.sst_base.specs.Entry.{Entry}
-use Rattle.sst_base.specs.Header.{◌>>=◌}
-use Rattle.sst_base.specs.declared.error.Error.{Error}
-use Rattle.sst_base.specs.declared.error.Error.TheVariants.{Io, Memory, BadHandle}
-use Rattle.sst_block_core.specs.Handles.{Handle}
 use Rattle.sstable_blocks.specs.SourceLaws.{source_fails, fails_outside}
 use Rattle.sstable_blocks.specs.Sources.{FailsAs}
 use Rattle.sstable_blocks.specs.declared.run.RunHandles.{RunHandles}

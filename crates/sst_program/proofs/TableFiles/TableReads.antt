@@ -4,18 +4,9 @@ use Rattle.std.proofs.Math.Seq.{take-append_seam}
 use Rattle.std.specs.Prelude.{IsOk}
 use Rattle.std.proofs.KnownBytes.{Appends-nil, Appends-trans, Appends-kept, Keeps-refl}
 use Rattle.std.specs.Io.KnownBytes.{Appends, Keeps}
-use Rattle.sst_base.specs.BlockHandle.{HandleParts}
-use Rattle.sst_base.specs.Entry.{Entry}
-use Rattle.sst_base.specs.Header.{◌>>=◌}
-use Rattle.sst_base.specs.declared.error.Error.{Error}
-use Rattle.sst_base.specs.declared.error.Error.TheVariants.{Io, BadHandle}
-use Rattle.sst_block_core.specs.Candidates.{GivesNextHeld}
-use Rattle.sst_block_core.specs.Scan.{Scan}
-use Rattle.sst_block_core.specs.Window.{Window, items_left, whole}
-use Rattle.sst_block_core.specs.WindowLaws.{next_some, next_none, items_left-whole}
-use Rattle.sst_block_core.specs.Handles.{Handle}
-use Rattle.sst_block_core.specs.ParsedHandle.{parsed_handle, IsParsedHandle}
-use Rattle.sst_block_core.specs.declared.table.index_block.parsed_item.IndexBlockParsedItem.{IndexBlockParsedItem}
+use Rattle.sstable_blocks.specs.Prelude.{HandleParts, Entry, GivesNextHeld, Scan, Window, items_left, whole, Handle, parsed_handle, IsParsedHandle, IndexBlockParsedItem}
+use Rattle.sstable_blocks.specs.Results.{◌>>=◌, Error, Io, BadHandle}
+use Rattle.sstable_blocks.specs.BlockLaws.{next_some, next_none, items_left-whole}
 use Rattle.sstable_blocks.specs.Blocks.{joined}
 use Rattle.sstable_blocks.specs.SourceLaws.{source_fails}
 use Rattle.sstable_blocks.specs.Sources.{FailsAs}

@@ -1,9 +1,7 @@
 -- Blocks of a size, and their table.
 use Rattle.std.proofs.Common.{◌≡◌, ℕ, ◌≤◌, List, [], ◌∷◌, ◌++◌, length, sym, ◌∙◌, ap, append_assoc}
+use Rattle.sstable_blocks.specs.Prelude.{Entry, entries, IsOrdered}
 use Rattle.sstable_blocks.specs.Blocks.{joined}
-use Rattle.sst_base.specs.Entry.{Entry}
-use Rattle.sst_block_core.specs.Entries.{entries}
-use Rattle.sst_block_core.specs.Kind.{IsOrdered}
 use Rattle.std.proofs.Common.{subst, Option}
 use Rattle.std.specs.Io.KnownBytes.{Appends}
 use Rattle.sstable_blocks.specs.Run.{block_frames}

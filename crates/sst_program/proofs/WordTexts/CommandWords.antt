@@ -5,7 +5,7 @@ use Rattle.std.specs.Str.{IsUtf8, is_utf8}
 use Rattle.std.proofs.lemmas.Bool.Decides.{nat_tests}
 use Rattle.std.proofs.lemmas.List.{take_all}
 use Rattle.std.proofs.lemmas.Str.{IsUtf8-from_is_utf8, is_utf8-from_IsUtf8}
-use Rattle.sst_base.specs.declared.config.HashRatio.{HashRatio}
+use Rattle.sstable_blocks.specs.Prelude.{HashRatio}
 use Rattle.sstable_blocks.specs.declared.run.RunConfig.{RunConfig}
 use Rattle.sst_program.specs.Text.{number_of, between_limits, number_within}
 use Rattle.sst_program.specs.Commands.{name_of, point_of_words, pack_of_words, get_of_words, file_of_words, command_named, command_of_words, index_interval_of, query_of, ratio_of, config_of, packing_of, find_of, file_of}

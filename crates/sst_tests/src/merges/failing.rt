@@ -2,7 +2,7 @@
 ghost use Rattle.std.specs.Prelude.{None};
 
 use crate::Tested;
-use crate::merges::lists::{Memory, Row, V, list_of, push_made};
+use crate::merges::lists::{Memory, Row, T, V, list_of, push_made};
 use sst_base::{ByteSum, Error, HashRatio, InternalValue, Output, Result, SeqNo, UserKey};
 use sst_merge::{
     Compact, Head, Merge, Ranked, Rev, Reversed, Sizes, Snapshot, Source, write_table,
@@ -179,6 +179,31 @@ fn a_failed_step_ends_what_is_made_of_its_source(rt: HostRuntime) -> Tested {
     for steps in 1..5 {
         check_counts(&rt, rt.alloc(), steps, steps - 1, [1, 1, 2, 3][steps - 1])?;
     }
+    Ok(())
+}
+
+/// A tombstone, and a version of another key.
+const BURIED: &[Row] = &[Row(b'a', 5, T), Row(b'b', 4, V)];
+
+/// What is counted of a compaction of these, where one snapshot does not see the tombstone, and the
+/// source fails after so many steps.
+fn counts_ahead(alloc: Global, steps: usize) -> Result<(usize, bool)> {
+    let source = Failing {
+        source: list_of(alloc, BURIED, 0)?.into_iter(),
+        steps,
+        ended: None,
+    };
+    match vec![in alloc; 3, 7] {
+        Ok(snapshots) => Ok(counts_of(alloc, Compact::new(source, snapshots, true))),
+        Err(_) => Err(Error::Memory),
+    }
+}
+
+// The look ahead behind the tombstone fails, or the step after the version that it holds.
+#[test]
+fn a_failed_look_ahead_ends_a_compaction(rt: HostRuntime) -> Tested {
+    assert_eq!(rt; counts_ahead(rt.alloc(), 1)?, (0, true));
+    assert_eq!(rt; counts_ahead(rt.alloc(), 2)?, (1, true));
     Ok(())
 }
 

@@ -3,7 +3,7 @@ use Rattle.std.proofs.Common.{◌≡◌, ◌∙◌, ℕ, List, [], ◌∷◌, �
 use Rattle.std.specs.Option.{option_map}
 use Rattle.std.specs.Io.KnownBytes.{Appends}
 use Rattle.std.proofs.KnownBytes.{Appends-trans}
-use Rattle.sst_base.specs.Entry.{Entry}
+use Rattle.sstable_blocks.specs.Prelude.{Entry}
 use Rattle.sst_merge.specs.Sources.{IsTaken}
 use Rattle.sst_program.specs.Line.{entry_line_of}
 use Rattle.sst_program.specs.Outcome.{lines_text_of}

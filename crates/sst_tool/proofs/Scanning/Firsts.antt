@@ -1,8 +1,8 @@
 -- The first of what a scan has left.
 use Rattle.std.proofs.Common.{rules, ◌≡◌, ◌∙◌, ℕ, List, [], ◌∷◌, refl, sym, ap, subst, Option, Some, None, Result, Ok, Err, map, slice_get}
 use Rattle.std.specs.Prelude.{IfOk, IfSome}
-use Rattle.sst_base.specs.Entry.{Entry, plain}
-use Rattle.sst_base.specs.declared.error.Error.{Error}
+use Rattle.sstable_blocks.specs.Prelude.{Entry, plain}
+use Rattle.sstable_blocks.specs.Results.{Error}
 use Rattle.sst_parts.specs.AnyScans.{ended_in, left_in, range_in}
 use Rattle.sst_parts.specs.declared.any_scan.AnyScan.{AnyScan}
 use Rattle.sstable_blocks.specs.Scans.{KeyRange, Read, GivesFirst, within}

@@ -3,9 +3,8 @@ use Rattle.std.proofs.Common.{◌≡◌, ◌≢◌, ◌∙◌, ◌<◌, ℕ, ◌
 use Rattle.std.specs.Option.{option_map}
 use Rattle.std.specs.List.{slice_get}
 use Rattle.std.proofs.lemmas.Option.{slice_get_within, get_or_from_slice_get}
-use Rattle.sst_base.specs.BlockHandle.{HandleParts}
-use Rattle.sst_block_core.specs.Handles.{Handle}
-use Rattle.sst_block_core.specs.HandleRanges.{handle_range}
+use Rattle.sstable_blocks.specs.Prelude.{HandleParts, Handle}
+use Rattle.sstable_blocks.specs.BlockLaws.{handle_range}
 use Rattle.sst_tool.specs.Frames.{offset_after, follow_from}
 
 tail-at : (items : List Handle) (i : ℕ) (h : Handle) → slice_get items i ≡ Some h → drop i items ≡ h ∷ drop (i + 1) items

@@ -1,7 +1,7 @@
 -- The first items of a source.
 use Rattle.std.proofs.Common.{◌≡◌, ◌∙◌, ◌<◌, ◌-◌, ℕ, List, [], ◌∷◌, take, ap, Option, Some, None, arith}
 use Rattle.std.specs.Option.{option_map}
-use Rattle.sst_base.specs.Entry.{Entry}
+use Rattle.sstable_blocks.specs.Prelude.{Entry}
 use Rattle.sst_merge.specs.Sources.{Left, TakesFirst}
 use Rattle.sst_tool.specs.Limits.{limited}
 

@@ -4,10 +4,11 @@ ghost use Rattle.std.specs.Io.KnownBytes.{Appends};
 ghost use Rattle.sst_base.specs.declared.error.Error.TheVariants.{Io, Truncated, BadHandle, Memory};
 ghost use Rattle.sstable_blocks.specs.Footer.{footer, footer_handles, parts_of, parts_at};
 ghost use Rattle.sstable_blocks.specs.Footer.{footer_place, table_handles};
-ghost use Rattle.sstable_blocks.specs.Sources.{AsksExactly, GivesOr, UsesSource};
+ghost use Rattle.sstable_blocks.specs.Sources.{AsksAs, AsksExactly, AsksIfOk, GivesOr, ReadsAs};
+ghost use Rattle.sstable_blocks.specs.Sources.{UsesSource};
 
 use super::RunHandles;
-use super::source::FrameSource;
+use super::source::{FrameSource, SizedSource};
 use super::sync::SyncWrite;
 use byteorder::{ByteOrder, LittleEndian};
 use sst_base::{BlockHandle, BlockOffset, Error, Output, Result};
@@ -112,6 +113,22 @@ pub fn read_footer<S: FrameSource>(alloc: Global, source: &mut S, len: u64) -> R
     let footer = BlockHandle::new(BlockOffset(len - size), size as u32);
     let footer = source.read_frame(alloc, &footer)?;
     decode_footer(footer.as_slice())
+}
+
+/// Reads the footer of a table file, whose length the source knows.
+///
+/// # Errors
+///
+/// Those of [`SizedSource::byte_len`] and of [`read_footer`].
+pub fn read_table_footer<S: SizedSource>(alloc: Global, source: &mut S) -> Result<RunHandles>
+    ensures source { UsesSource S.bytes S.failures S.reads S.is_reliable
+        (AsksIfOk (λ _. 1)) source.old source.new result }
+    ensures asked { AsksAs S.bytes S.failures S.reads source.old source.new result (λ _. 1) }
+    ensures exact { ReadsAs S.bytes S.failures S.is_reliable source.old source.new (λ h. h) result
+        (λ all. table_handles all) }
+{
+    let len = source.byte_len()?;
+    read_footer(alloc, source, len)
 }
 
 /// Ends a table file behind the run of these handles: writes the footer, and waits until all is

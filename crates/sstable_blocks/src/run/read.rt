@@ -35,9 +35,9 @@ use sst_block_core::table::data_block::{DataBlockParsedItem, DataBlockRef};
 use sst_block_core::table::index_block::IndexBlockRef;
 use std::alloc::Global;
 
-// The payload of a frame, by the frame's range alone.
+/// Returns the payload of a frame in bytes, which begins behind its header. Nothing is tested.
 #[tactic(auto, using(crate::specs::PointLaws::payload_range), unfolding(crate::specs::Opened::payload_in))]
-pub(crate) fn payload_at<'a>(bytes: &'a [u8], handle: &BlockHandle) -> &'a [u8]
+pub fn payload_at<'a>(bytes: &'a [u8], handle: &BlockHandle) -> &'a [u8]
     requires { IsFrameRange bytes.now handle.now }
     ensures { result.now ≡ payload_in bytes.now handle.now }
 {
@@ -54,17 +54,20 @@ fn is_allowed(bytes: &[u8], filter: &Option<BlockHandle>, hash: u64) -> bool
     OpenFilter::new(bytes, filter).allows(hash)
 }
 
-// The index in a frame, over the same bytes.
+/// Returns the index block in a frame of bytes, which it borrows. Nothing is tested, and it has no table
+/// of its heads.
 #[tactic(auto, using(crate::specs::RunLaws::payload_fits))]
-pub(crate) fn index_over<'a>(bytes: &'a [u8], handle: &BlockHandle) -> IndexSearch<'a>
+pub fn index_over<'a>(bytes: &'a [u8], handle: &BlockHandle) -> IndexBlockRef<'a>
     requires range { IsFrameRange bytes.now handle.now }
     requires index { (items : List Handle) × (r : ℕ)
         × IsIndexBlock (payload_in bytes.now handle.now) items r }
-    ensures { result ≡ index_ref_of (payload_in bytes.now handle.now) false }
+    ensures parts { result ≡ index_ref_of (payload_in bytes.now handle.now) false }
+    ensures read { (items : List Handle) (r : ℕ) → IsIndexBlock (payload_in bytes.now handle.now) items r
+        → (result.items ≡ items) × (result.interval ≡ r) }
 {
     // A size has 32 bits.
     let _fits = handle.size();
-    IndexSearch::new(IndexBlockRef::new(payload_at(bytes, handle)))
+    IndexBlockRef::new(payload_at(bytes, handle))
 }
 
 // The data block in a frame, over the same bytes.
@@ -192,7 +195,7 @@ pub fn read_entry<H: BlockHash>(
     if !is_allowed(data, &handles.filter, H::hash64(needle)) {
         return Ok(None);
     }
-    let index = index_over(data, &handles.index);
+    let index = IndexSearch::new(index_over(data, &handles.index));
     match item_by_index::<H>(data, handles, &index, needle, seqno, steps) {
         None => Ok(None),
         Some(place) => Ok(Some(shared_entry(alloc, bytes, &place)?)),

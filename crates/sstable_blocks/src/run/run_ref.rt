@@ -69,7 +69,8 @@ impl<'a, H: BlockHash> RunRef<'a, H> {
         ensures { result ≡ record { bytes = bytes.now; handles = handles.now } }
     {
         sound_opens();
-        RunRef::with_index(bytes, handles, index_over(bytes, &handles.index))
+        let index = IndexSearch::new(index_over(bytes, &handles.index));
+        RunRef::with_index(bytes, handles, index)
     }
 
     /// Checks a whole run of any bytes, as [`super::check`] does, and returns it with its summary.
@@ -241,9 +242,7 @@ fn summary_in<H: BlockHash>(alloc: Global, bytes: &[u8], handles: &RunHandles) -
         (λ blocks. MatchResult result (λ s. s ≡ summary_of blocks) (λ e. e ≡ Error.Memory)) }
 {
     let mut source = BorrowedSource::new(bytes);
-    let summary = check::<H, BorrowedSource<'_>>(alloc, &mut source, handles);
-    source.note_reliable();
-    summary
+    check::<H, BorrowedSource<'_>>(alloc, &mut source, handles)
 }
 
 // Where the first match of a sound run is, by its index.

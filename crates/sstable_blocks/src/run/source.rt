@@ -119,20 +119,13 @@ impl MemorySource {
     {
         &self.bytes
     }
-
-    // States in a proof that memory never fails.
-    pub(crate) fn note_reliable(&self)
-        ensures { self.now.failures ≡ 0 }
-    {
-        let _reads = &self.reads;
-    }
 }
 
 /// `Error::BadHandle` and `Error::Memory` alone.
 impl FrameSource for MemorySource {
     ghost bytes = { λ s. Some s.inner };
 
-    ghost failures = { λ s. s.failures };
+    ghost failures = { λ s. 0 };
 
     ghost reads = { λ s. s.reads };
 
@@ -189,20 +182,13 @@ impl<'a> BorrowedSource<'a> {
             reads: Count::new(),
         }
     }
-
-    // States in a proof that memory never fails.
-    pub(crate) fn note_reliable(&self)
-        ensures { self.now.failures ≡ 0 }
-    {
-        let _reads = &self.reads;
-    }
 }
 
 /// `Error::BadHandle` and `Error::Memory` alone.
 impl<'a> FrameSource for BorrowedSource<'a> {
     ghost bytes = { λ s. Some s.inner };
 
-    ghost failures = { λ s. s.failures };
+    ghost failures = { λ s. 0 };
 
     ghost reads = { λ s. s.reads };
 

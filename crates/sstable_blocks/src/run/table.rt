@@ -24,7 +24,7 @@ ghost use Rattle.sstable_blocks.specs.Scans.{AtHandle};
 use super::RunHandles;
 use super::checked::{block_from, data_block_from, read_in_block};
 use super::checking::{RunSummary, check};
-use super::footer::read_footer;
+use super::footer::read_table_footer;
 use super::kept_filter::KeptFilter;
 use super::laws::sound_is_read;
 use super::run_ref::RunRef;
@@ -119,18 +119,6 @@ fn kept_allows<H: BlockHash>(filter: &Option<KeptFilter>, needle: &[u8]) -> bool
         None => true,
         Some(filter) => filter.allows(H::hash64(needle)),
     }
-}
-
-// The handles in the footer of a table file.
-fn handles_from<S: SizedSource>(alloc: Global, source: &mut S) -> Result<RunHandles>
-    ensures source { UsesSource S.bytes S.failures S.reads S.is_reliable
-        (AsksIfOk (λ _. 1)) source.old source.new result }
-    ensures asked { AsksAs S.bytes S.failures S.reads source.old source.new result (λ _. 1) }
-    ensures exact { ReadsAs S.bytes S.failures S.is_reliable source.old source.new (λ h. h) result
-        (λ all. table_handles all) }
-{
-    let len = source.byte_len()?;
-    read_footer(alloc, source, len)
 }
 
 // The index of a run, with the table of its heads.
@@ -399,7 +387,7 @@ impl<H: BlockHash, S: SizedSource> Table<H, S> {
             (kept_by_footer (hashes H.hash64 H.hash128) all) e.error)) }
     {
         let mut source = source;
-        match handles_from::<S>(alloc, &mut source) {
+        match read_table_footer::<S>(alloc, &mut source) {
             Ok(handles) => Table::open(alloc, source, handles),
             Err(error) => Err(OpenError { error, source }),
         }

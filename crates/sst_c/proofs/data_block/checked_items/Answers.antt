@@ -1,6 +1,5 @@
 use Rattle.std.proofs.Common.{inr, refl, sym, ◌∙◌, subst}
-use Rattle.sst_block_core.specs.Entries.{entries}
-use Rattle.sst_block_core.specs.Kind.{IsOrdered}
+use Rattle.sstable_blocks.specs.Prelude.{entries, IsOrdered}
 use Rattle.sst_c.proofs.Lists.Givens.{same_entries}
 use Rattle.sst_c.proofs.data_block.checked_items.Goals as goal
 

@@ -1,5 +1,5 @@
 use Rattle.std.proofs.Common.{subst, sym}
-use Rattle.sst_block_core.specs.ParsedEntry.{entry_of}
+use Rattle.sstable_blocks.specs.Prelude.{entry_of}
 use Rattle.sst_c.specs.Blocks.{IsPlaceOf}
 use Rattle.sst_c.specs.declared.data_block.SstPlace.{SstPlace}
 use Rattle.sst_c.proofs.Lists.Places.{placed}

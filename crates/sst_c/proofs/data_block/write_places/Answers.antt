@@ -1,7 +1,6 @@
 use Rattle.std.proofs.Common.{◌≡◌, ◌∙◌, [], drop, length, arith, sym, ap, add-one, length-drop}
-use Rattle.sst_block_core.specs.ListSteps.{took_some}
-use Rattle.sst_block_core.specs.WindowLaws.{next_none}
-use Rattle.sst_block_core.specs.ParsedEntry.{entry_of, IsParsedEntry}
+use Rattle.sstable_blocks.specs.BlockLaws.{took_some, next_none}
+use Rattle.sstable_blocks.specs.Prelude.{entry_of, IsParsedEntry}
 use Rattle.sst_c.proofs.Lists.Listings.{first_from, item_listed}
 use Rattle.sst_c.proofs.data_block.write_places.Goals as goal
 

@@ -1,5 +1,5 @@
 use Rattle.std.proofs.Common.{◌≡◌, take, drop}
-use Rattle.sst_block_core.specs.Window.{items_left}
+use Rattle.sstable_blocks.specs.Prelude.{items_left}
 use Rattle.sst_c.specs.Listing.{AreListed}
 use Rattle.sst_c.proofs.data_block.write_places.Given as goal
 

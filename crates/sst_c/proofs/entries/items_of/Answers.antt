@@ -1,5 +1,5 @@
 use Rattle.std.proofs.Common.{refl, inr}
-use Rattle.sst_base.specs.Entry.{Entry}
+use Rattle.sstable_blocks.specs.Prelude.{Entry}
 use Rattle.sst_c.specs.Given.{IsGiven}
 use Rattle.sst_c.proofs.Lists.Givens.{at_index, each_given}
 use Rattle.sst_c.proofs.entries.items_of.Goals as goal

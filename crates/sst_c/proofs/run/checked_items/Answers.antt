@@ -1,7 +1,5 @@
 use Rattle.std.proofs.Common.{List, inr, refl, sym, ◌∙◌, subst, ap, length}
-use Rattle.sst_base.specs.Entry.{Entry}
-use Rattle.sst_block_core.specs.Entries.{entries}
-use Rattle.sst_block_core.specs.Kind.{IsOrdered}
+use Rattle.sstable_blocks.specs.Prelude.{Entry, entries, IsOrdered}
 use Rattle.sstable_blocks.specs.Blocks.{CutsFit}
 use Rattle.sst_c.proofs.Lists.Givens.{same_entries}
 use Rattle.sst_c.proofs.run.checked_items.Goals as goal

@@ -1,5 +1,5 @@
 use Rattle.std.proofs.Common.{sym, subst}
-use Rattle.sst_block_core.specs.Handles.{IsIndexBlock}
+use Rattle.sstable_blocks.specs.Prelude.{IsIndexBlock}
 use Rattle.sstable_blocks.specs.Opened.{index_in}
 use Rattle.sst_c.specs.Runs.{run_hashes}
 use Rattle.sst_c.proofs.run_blocks.index_of.Goals as goal

@@ -1,8 +1,7 @@
 use Rattle.std.proofs.Common.{◌≡◌, ◌∙◌, arith, refl, sym, subst, ap, length, List, Option, None}
 use Rattle.std.specs.Prelude.{slice_get}
 use Rattle.std.proofs.lemmas.Option.{slice_get_past}
-use Rattle.sst_base.specs.Entry.{Entry}
-use Rattle.sst_block_core.specs.Handles.{Handle}
+use Rattle.sstable_blocks.specs.Prelude.{Entry, Handle}
 use Rattle.sstable_blocks.specs.Opened.{index_in}
 use Rattle.sst_c.specs.Listing.{IsListing}
 use Rattle.sst_c.specs.RunBlocks.{IsBlockListing}

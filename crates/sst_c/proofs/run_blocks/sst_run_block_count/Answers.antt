@@ -1,5 +1,5 @@
 use Rattle.std.proofs.Common.{◌∙◌, ap, length, List}
-use Rattle.sst_block_core.specs.Handles.{Handle}
+use Rattle.sstable_blocks.specs.Prelude.{Handle}
 use Rattle.sstable_blocks.specs.Opened.{index_in}
 use Rattle.sst_c.specs.Runs.{handles_given, run_hashes}
 use Rattle.sst_c.proofs.run_blocks.sst_run_block_count.Goals as goal

@@ -1,7 +1,7 @@
 use Rattle.std.proofs.Common.{rules, tests, nat_lt, ◌∙◌, Bool}
 use Rattle.std.proofs.lemmas.Iterator.Consumers.{YieldsList-from_first, YieldsList-from_filter, count_from_yields_List}
 use Rattle.std.proofs.lemmas.List.Sums.{length-filter}
-use Rattle.sst_base.specs.Entry.{Entry}
+use Rattle.sstable_blocks.specs.Prelude.{Entry}
 use Rattle.sst_examples.proofs.uses.count_below.Goals as goal
 
 -- the entries that the filter lets through are those that are counted

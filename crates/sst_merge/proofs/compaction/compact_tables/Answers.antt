@@ -1,7 +1,7 @@
 use Rattle.std.proofs.Common.{◌≡◌, [], ◌∙◌, ap, subst, List, Option}
 use Rattle.std.specs.Option.{option_map}
 use Rattle.std.specs.Result.{OnOk}
-use Rattle.sst_base.specs.Entry.{Entry}
+use Rattle.sstable_blocks.specs.Prelude.{Entry}
 use Rattle.sstable_blocks.specs.Run.{form}
 use Rattle.sst_merge.specs.Compact.{compacted}
 use Rattle.sst_merge.specs.OutputLaws.{none_after}

@@ -1,5 +1,5 @@
 use Rattle.std.proofs.Common.{arith, ◌∙◌, ap}
-use Rattle.sst_block_core.specs.Heads.{front}
+use Rattle.sstable_blocks.specs.Prelude.{front}
 use Rattle.sst_merge.proofs.Merging.FrontNumbers.{behind_short}
 use Rattle.sst_merge.proofs.front.front_behind.Goals as goal
 

@@ -1,4 +1,4 @@
-use Rattle.sst_base.specs.Entry.{Entry}
+use Rattle.sstable_blocks.specs.Prelude.{Entry}
 use Rattle.sst_merge.specs.CompactLaws.{compact-ordered}
 use Rattle.sst_merge.specs.ManyLaws.{above_match, seen_match}
 use Rattle.sst_merge.proofs.laws.compaction_keeps_reads.Goals as goal

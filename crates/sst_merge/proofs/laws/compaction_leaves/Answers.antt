@@ -1,4 +1,4 @@
-use Rattle.sst_base.specs.Entry.{Entry}
+use Rattle.sstable_blocks.specs.Prelude.{Entry}
 use Rattle.sst_merge.specs.StayLaws.{compacted-staying}
 use Rattle.sst_merge.proofs.laws.compaction_leaves.Goals as goal
 

@@ -1,5 +1,5 @@
 use Rattle.std.proofs.Common.{◌+◌, ◌-◌, ◌/◌, ◌<◌, length, sym, ◌∙◌, arith}
-use Rattle.sst_block_core.specs.DataBlock.{DataRefParts}
+use Rattle.sstable_blocks.specs.Prelude.{DataRefParts}
 use Rattle.sst_merge.specs.MovableBlocks.{block_lists}
 use Rattle.sst_merge.proofs.Moving.BlockCounts.{block_side}
 use Rattle.sst_merge.proofs.Moving.BlockEnds.{map_item}

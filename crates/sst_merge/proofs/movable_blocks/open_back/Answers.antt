@@ -1,5 +1,5 @@
 use Rattle.std.proofs.Common.{◌≡◌, ◌-◌, ◌<◌, length, suc, ap, ◌∙◌, arith}
-use Rattle.sst_block_core.specs.DataBlock.{DataRefParts}
+use Rattle.sstable_blocks.specs.Prelude.{DataRefParts}
 use Rattle.sst_merge.specs.MovableBlocks.{block_lists, entries_before}
 use Rattle.sst_merge.proofs.Moving.BlockEnds.{back_before, back_held, map_item, some_in, whole_back}
 use Rattle.sst_merge.proofs.movable_blocks.open_back.Goals as goal

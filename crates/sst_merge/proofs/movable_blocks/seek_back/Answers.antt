@@ -2,7 +2,7 @@ use Rattle.std.proofs.Common.{◌≡◌, ◌+◌, ◌<◌, Some, true, length, s
 use Rattle.std.proofs.lemmas.List.{length-map}
 use Rattle.std.proofs.lemmas.List.Sums.{count_by-le-length}
 use Rattle.std.specs.List.{count_by}
-use Rattle.sst_block_core.specs.DataBlock.{DataRefParts}
+use Rattle.sstable_blocks.specs.Prelude.{DataRefParts}
 use Rattle.sstable_blocks.specs.Blocks.{joined}
 use Rattle.sst_merge.specs.Movable.{is_sought}
 use Rattle.sst_merge.specs.MovableBlocks.{block_lists, entries_before, entry_key}

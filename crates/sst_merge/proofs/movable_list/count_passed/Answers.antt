@@ -1,5 +1,5 @@
 use Rattle.std.proofs.Common.{◌+◌, ◌-◌, ◌/◌, ◌<◌, length, sym, ◌∙◌, ap, arith}
-use Rattle.sst_base.specs.Entry.{Entry}
+use Rattle.sstable_blocks.specs.Prelude.{Entry}
 use Rattle.sst_merge.specs.Movable.{is_sought}
 use Rattle.sst_merge.proofs.Moving.SortedCounts.{more_passed, none_passed}
 use Rattle.sst_merge.proofs.movable_list.count_passed.Goals as goal

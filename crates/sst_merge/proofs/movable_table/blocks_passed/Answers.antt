@@ -1,7 +1,6 @@
 use Rattle.std.proofs.Common.{◌≡◌, ap, ◌∙◌}
 use Rattle.std.specs.List.{count_by}
-use Rattle.sst_block_core.specs.Handles.{handles}
-use Rattle.sst_block_core.specs.Window.{count_passed}
+use Rattle.sstable_blocks.specs.Prelude.{handles, count_passed}
 use Rattle.sstable_blocks.specs.RunReading.{hashes}
 use Rattle.sst_merge.specs.MovableBlocks.{is_block_sought}
 use Rattle.sst_merge.specs.MovableTables.{table_blocks}

@@ -1,6 +1,5 @@
 use Rattle.std.proofs.Common.{◌≡◌, ◌<◌, Ok, Some, ap, slice_get, sym, ◌∙◌}
-use Rattle.sst_block_core.specs.Window.{Window}
-use Rattle.sst_base.specs.Entry.{Entry}
+use Rattle.sstable_blocks.specs.Prelude.{Window, Entry}
 use Rattle.sstable_blocks.specs.Opened.{range_of}
 use Rattle.sstable_blocks.specs.RunReading.{block_items_at, hashes}
 use Rattle.sstable_blocks.specs.Sources.{FailsAs}

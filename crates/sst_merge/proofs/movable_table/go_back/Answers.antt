@@ -1,6 +1,6 @@
 use Rattle.std.proofs.Common.{ap, ◌∙◌, refl, subst, sym}
 use Rattle.std.specs.Option.{option_map}
-use Rattle.sst_block_core.specs.Window.{items_left}
+use Rattle.sstable_blocks.specs.Prelude.{items_left}
 use Rattle.sstable_blocks.specs.RunReading.{hashes}
 use Rattle.std.proofs.Common.{◌≤◌, length}
 use Rattle.sst_merge.specs.MovableTables.{IsBackAt, OfBlocks, TableEnd}

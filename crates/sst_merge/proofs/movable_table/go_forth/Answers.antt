@@ -1,7 +1,6 @@
 use Rattle.std.proofs.Common.{Bool, true, false, if◌then◌else◌, ◌+◌, ap, ◌∙◌, arith, length, refl, subst, sym, ◌≡◌, ◌-◌}
 use Rattle.std.specs.Option.{option_map}
-use Rattle.sst_base.specs.Entry.{Entry}
-use Rattle.sst_block_core.specs.Window.{Window, items_left, next, some_left}
+use Rattle.sstable_blocks.specs.Prelude.{Entry, Window, items_left, next, some_left}
 use Rattle.sstable_blocks.specs.RunReading.{hashes}
 use Rattle.sst_merge.specs.MovableTables.{IsFrontAt, OfBlocks, TableEnd}
 use Rattle.sst_merge.specs.MovableBlocks.{entries_before}

@@ -1,13 +1,11 @@
 use Rattle.std.proofs.Common.{◌≡◌, ◌+◌, ◌<◌, ◌≤◌, length, Some, None, arith, ◌∙◌, ap, sym, subst, inl, inr}
 use Rattle.std.specs.Prelude.{IfSome}
 use Rattle.std.proofs.lemmas.Result.{err_from_is_err_and}
-use Rattle.sst_base.specs.Counted.{CountsBetween}
-use Rattle.sst_block_core.specs.Entries.{entries}
-use Rattle.sst_block_core.specs.Window.{first_match}
+use Rattle.sstable_blocks.specs.Prelude.{CountsBetween, entries, first_match}
+use Rattle.sstable_blocks.specs.BlockLaws.{none_from}
 use Rattle.sst_merge.specs.CountLaws.{count_next, within_front}
 use Rattle.sst_merge.specs.ReaderLaws.{asked_here, asked_least, behind_more, kept_more, known_count, level_found, match_at, missed_more, none_found, later, one_fails, read_is_merge, same_here}
 use Rattle.sst_merge.proofs.reader.read_levels.Goals as goal
-use Rattle.sst_base.specs.TestLaws.{none_from}
 
 pub returns-in_err-found-clause-kept : goal.returns-in_err-found-clause-kept
 returns-in_err-found-clause-kept g c = kept_more g.R.Reader.list c.args.needle.now c.args.seqno c.loop-i.readers c.loop-i.i c.index-readers-i.result c.get.new.self _ c.loop-i.invariant.kept c.index-readers-i.is

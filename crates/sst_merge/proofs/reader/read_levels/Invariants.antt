@@ -1,8 +1,5 @@
 use Rattle.std.proofs.Common.{◌≡◌, ℕ, ◌<◌, List, map, take, drop, Some, None}
-use Rattle.sst_base.specs.Counted.{CountsBetween}
-use Rattle.sst_base.specs.Entry.{Entry}
-use Rattle.sst_block_core.specs.Entries.{entries}
-use Rattle.sst_block_core.specs.Window.{first_match}
+use Rattle.sstable_blocks.specs.Prelude.{CountsBetween, Entry, entries, first_match}
 use Rattle.sst_merge.specs.Counts.{most_of}
 use Rattle.sst_merge.specs.Picks.{list_at}
 use Rattle.sst_merge.specs.Sources.{all_known}

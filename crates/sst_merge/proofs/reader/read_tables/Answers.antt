@@ -2,9 +2,7 @@ use Rattle.std.proofs.Common.{◌≡◌, ◌-◌, length, drop, arith, refl, ◌
 use Rattle.std.specs.Prelude.{IfSome}
 use Rattle.std.proofs.lemmas.Result.{err_from_is_err_and}
 use Rattle.std.proofs.lemmas.List.{length-set}
-use Rattle.sst_base.specs.Counted.{CountsBetween}
-use Rattle.sst_block_core.specs.Entries.{entries}
-use Rattle.sst_block_core.specs.Window.{first_match}
+use Rattle.sstable_blocks.specs.Prelude.{CountsBetween, entries, first_match}
 use Rattle.sst_merge.specs.CountLaws.{count_more, front_same, none_counted, within_all}
 use Rattle.sst_merge.specs.ReaderLaws.{matches, none_read, one_fails, read_more, kept_more, read_is_merge}
 use Rattle.sst_merge.specs.Sources.{all_known}

@@ -1,9 +1,6 @@
 use Rattle.std.proofs.Common.{◌≡◌, ℕ, ◌<◌, ◌≤◌, List, length, map, drop, get_or, Some}
-use Rattle.sst_base.specs.Counted.{CountsBetween}
+use Rattle.sstable_blocks.specs.Prelude.{CountsBetween, Entry, entries, first_match}
 use Rattle.sst_merge.specs.Counts.{most_of}
-use Rattle.sst_base.specs.Entry.{Entry}
-use Rattle.sst_block_core.specs.Entries.{entries}
-use Rattle.sst_block_core.specs.Window.{first_match}
 use Rattle.sst_merge.specs.Merge.{entry_cmp, least_match}
 use Rattle.sst_merge.specs.Sources.{all_known}
 use Rattle.sst_merge.proofs.reader.read_tables.Given as goal

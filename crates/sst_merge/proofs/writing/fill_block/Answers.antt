@@ -1,13 +1,12 @@
 use Rattle.std.proofs.Common.{◌≡◌, ◌∷◌, [], ◌++◌, Some, length, length-append, map, subst, sym, ap, ◌∙◌, inl, inr, arith}
 use Rattle.std.specs.Option.{IfSome}
+use Rattle.sstable_blocks.specs.Prelude.{item_form, entries}
 use Rattle.sst_merge.specs.MappedLaws.{none_entries}
 use Rattle.std.proofs.lemmas.Result.{err_from_is_err_and}
 use Rattle.sst_merge.specs.WriteLaws.{gives_more}
 use Rattle.std.proofs.lemmas.List.{length-map, map-append}
 use Rattle.std.proofs.lemmas.Bool.Decides.{nat_tests}
 use Rattle.std.proofs.lemmas.Grind.{common_steps}
-use Rattle.sst_block_core.specs.Body.{item_form}
-use Rattle.sst_block_core.specs.Entries.{entries}
 use Rattle.sst_merge.specs.SizeLaws.{below_more, len_more}
 use Rattle.sst_merge.specs.SourceLaws.{same_end}
 use Rattle.sst_merge.specs.Sources.{IsTaken}

@@ -1,8 +1,8 @@
 use Rattle.std.proofs.Common.{◌≡◌, ◌≢◌, ◌<◌, true, false, inr, sym, ◌∙◌, ap}
 use Rattle.std.specs.Option.{option_copied}
 use Rattle.std.specs.Ordering.{is_eq}
-use Rattle.sst_base.specs.Entry.{Entry}
-use Rattle.sst_block_core.specs.VersionLaws.{keys_equal}
+use Rattle.sstable_blocks.specs.Prelude.{Entry}
+use Rattle.sstable_blocks.specs.BlockLaws.{keys_equal}
 use Rattle.sst_merge.specs.MappedLaws.{none_entries, apart_none, apart_entries, together_entries, keys_alike}
 use Rattle.sst_merge.specs.SizeLaws.{none_peeked, some_last}
 use Rattle.sst_merge.proofs.writing.goes_on.Goals as goal

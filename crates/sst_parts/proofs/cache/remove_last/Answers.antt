@@ -1,6 +1,6 @@
 use Rattle.std.proofs.Common.{ℕ, length, arith, ◌∙◌, ap}
 use Rattle.lru.specs.LruCache.{LruCache}
-use Rattle.sst_block_core.specs.DataBlock.{DataBlockParts}
+use Rattle.sstable_blocks.specs.Prelude.{DataBlockParts}
 use Rattle.sst_parts.specs.Caches.{fitting, kept_bytes}
 use Rattle.sst_parts.proofs.Cached.Caching.{fitting_out, last_out, none_last}
 use Rattle.sst_parts.proofs.cache.remove_last.Goals as goal

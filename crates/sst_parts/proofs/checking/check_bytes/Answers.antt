@@ -1,6 +1,6 @@
 use Rattle.std.proofs.Common.{Some, refl, sym, ap, ◌∙◌}
 use Rattle.std.proofs.lemmas.Result.{err_from_is_err_and}
-use Rattle.sst_base.specs.Header.{◌>>=◌}
+use Rattle.sstable_blocks.specs.Results.{◌>>=◌}
 use Rattle.sst_parts.specs.PartChecks.{check_bytes, check_ends, check_file}
 use Rattle.sstable_blocks.specs.FooterLaws.{gives_same}
 use Rattle.sstable_blocks.specs.RunReading.{hashes}

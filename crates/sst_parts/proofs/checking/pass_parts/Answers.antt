@@ -1,7 +1,7 @@
 use Rattle.std.proofs.Common.{◌∙◌, sym, ap, subst, arith, List, length}
 use Rattle.std.proofs.lemmas.Result.{err_from_is_err_and}
 use Rattle.std.specs.List.{AllByRecursion}
-use Rattle.sst_block_core.specs.Handles.{Handle, EndFits}
+use Rattle.sstable_blocks.specs.Prelude.{Handle, EndFits}
 use Rattle.sst_parts.specs.PartChecks.{check_part, no_parts}
 use Rattle.sstable_blocks.specs.RunReading.{hashes}
 use Rattle.sstable_blocks.specs.WalkLaws.{frames_done, frames_end, frames_on, handle_left, none_left, walk_done, walk_fails, walk_on}

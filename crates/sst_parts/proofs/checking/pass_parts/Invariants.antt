@@ -1,7 +1,6 @@
 use Rattle.std.proofs.Common.{◌≡◌, ◌+◌, ◌≤◌, length}
 use Rattle.std.specs.List.{AllByRecursion}
-use Rattle.sst_block_core.specs.Window.{items_left}
-use Rattle.sst_block_core.specs.Handles.{EndFits}
+use Rattle.sstable_blocks.specs.Prelude.{items_left, EndFits}
 use Rattle.sst_parts.specs.PartChecks.{check_part, no_parts}
 use Rattle.sstable_blocks.specs.RunReading.{hashes}
 use Rattle.sstable_blocks.specs.Sources.{KeepsSource}

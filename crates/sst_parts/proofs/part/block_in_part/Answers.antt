@@ -1,5 +1,5 @@
 use Rattle.std.proofs.Common.{refl}
-use Rattle.sst_base.specs.Frame.{payload_of_type}
+use Rattle.sstable_blocks.specs.Prelude.{payload_of_type}
 use Rattle.sst_parts.proofs.Reading.Ranges.{passed_by, refused_by}
 use Rattle.sst_parts.proofs.part.block_in_part.Goals as goal
 

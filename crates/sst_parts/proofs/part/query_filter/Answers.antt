@@ -1,5 +1,5 @@
 use Rattle.std.proofs.Common.{subst, ◌≡◌}
-use Rattle.sst_base.specs.Block.{BlockParts}
+use Rattle.sstable_blocks.specs.Prelude.{BlockParts}
 use Rattle.sstable_blocks.specs.RunReading.{filter_answer}
 use Rattle.sstable_blocks.specs.CheckedLaws.{asked, asked_not_io}
 use Rattle.sst_parts.proofs.part.query_filter.Goals as goal

@@ -1,5 +1,5 @@
 use Rattle.std.proofs.Common.{◌≡◌, Ok, Err, Result, sym, ap, ◌∙◌}
-use Rattle.sst_base.specs.declared.error.Error.{Error}
+use Rattle.sstable_blocks.specs.Results.{Error}
 use Rattle.sst_parts.proofs.Writing.Footers.{footer_at, footer_some}
 use Rattle.sstable_blocks.specs.Footer.{footer_handles}
 use Rattle.sstable_blocks.specs.declared.run.RunHandles.{RunHandles}

@@ -1,5 +1,5 @@
 use Rattle.std.proofs.Common.{◌≡◌, ◌≤◌, IfSome}
-use Rattle.sst_block_core.specs.Window.{items_left}
+use Rattle.sstable_blocks.specs.Prelude.{items_left}
 use Rattle.sst_program.specs.TableReads.{blocks_listed}
 use Rattle.sst_program.proofs.TableFiles.TableReads.{CountsTo}
 use Rattle.sst_program.proofs.check.check_blocks.Given as goal

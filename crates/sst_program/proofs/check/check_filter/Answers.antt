@@ -1,6 +1,6 @@
 use Rattle.std.proofs.Common.{sym, subst}
 use Rattle.std.proofs.lemmas.Result.{err_from_is_err_and}
-use Rattle.sst_base.specs.FrameErrorLaws.{NotIo}
+use Rattle.sstable_blocks.specs.BlockLaws.{NotIo}
 use Rattle.sstable_blocks.specs.FilterLaws.{filter_not_io}
 use Rattle.sst_program.proofs.check.check_filter.Goals as goal
 

@@ -1,5 +1,5 @@
 use Rattle.std.proofs.Common.{◌≡◌}
-use Rattle.sst_block_core.specs.Window.{items_left}
+use Rattle.sstable_blocks.specs.Prelude.{items_left}
 use Rattle.sst_program.specs.Outcome.{lines_text_of}
 use Rattle.sst_program.proofs.Results.Printing.{PutsTo}
 use Rattle.sst_program.proofs.entry_printer.put_entries.Given as goal

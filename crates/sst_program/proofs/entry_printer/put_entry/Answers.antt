@@ -1,4 +1,4 @@
-use Rattle.sst_block_core.specs.ParsedEntry.{entry_of}
+use Rattle.sstable_blocks.specs.Prelude.{entry_of}
 use Rattle.sst_program.proofs.Results.Printing.{puts_line}
 use Rattle.sst_program.proofs.entry_printer.put_entry.Goals as goal
 

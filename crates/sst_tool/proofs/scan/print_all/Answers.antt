@@ -1,6 +1,6 @@
 use Rattle.std.proofs.Common.{◌≡◌, ◌∙◌, subst, ◌∷◌, Option, Some}
 use Rattle.std.specs.Option.{option_map}
-use Rattle.sst_base.specs.Entry.{Entry}
+use Rattle.sstable_blocks.specs.Prelude.{Entry}
 use Rattle.sst_merge.specs.Sources.{Left, TakesFirst}
 use Rattle.sst_tool.proofs.Printing.Printed.{printed_next}
 use Rattle.sst_tool.proofs.scan.print_all.Goals as goal

@@ -1,6 +1,6 @@
 use Rattle.std.proofs.Common.{◌+◌, ◌≤◌}
+use Rattle.sstable_blocks.specs.Prelude.{found_item}
 use Rattle.sst_tool.proofs.seen_back.next_seen.Given as goal
-use Rattle.sst_base.specs.Counted.{found_item}
 use Rattle.sst_merge.specs.Sources.{MeetsNoMore}
 
 abbrev pub decreases-loop-entry : goal.decreases-loop-entry

@@ -1,6 +1,6 @@
 use Rattle.std.proofs.Common.{◌≡◌, ◌∷◌, [], Some, ◌∙◌, ap, sym, subst, List, ℕ}
 use Rattle.std.specs.List.{insert}
-use Rattle.sst_base.specs.Entry.{Entry}
+use Rattle.sstable_blocks.specs.Prelude.{Entry}
 use Rattle.sst_merge.specs.Merge.{entry_cmp, merge}
 use Rattle.sst_merge.specs.Snapshot.{seen}
 use Rattle.sst_examples.proofs.Leveled.Levels.{version_added}

@@ -1,6 +1,6 @@
 use Rattle.std.proofs.Common.{◌≡◌, ℕ, true, List, [], ◌∷◌, ◌++◌, Option, Some, None, map, ◌∙◌, ap, sym, subst}
 use Rattle.std.specs.Option.{option_map}
-use Rattle.sst_base.specs.Entry.{Entry, plain}
+use Rattle.sstable_blocks.specs.Prelude.{Entry, plain}
 use Rattle.sst_merge.specs.Compact.{IsKeptRead, compacted}
 use Rattle.sst_merge.specs.MappedLaws.{entries_themselves}
 use Rattle.sst_merge.specs.Sources.{Left, before, left_as}

@@ -1,9 +1,7 @@
 use Rattle.std.proofs.Common.{◌≡◌, Option, Some, ◌∙◌, ap, sym, subst}
 use Rattle.std.specs.Result.{IfOk}
 use Rattle.std.specs.Vec.{with_items}
-use Rattle.sst_base.specs.Entry.{Entry}
-use Rattle.sst_block_core.specs.Entries.{entries}
-use Rattle.sst_block_core.specs.Window.{first_match}
+use Rattle.sstable_blocks.specs.Prelude.{Entry, entries, first_match}
 use Rattle.sst_examples.proofs.Leveled.Levels.{newer_found, older_found}
 use Rattle.sst_examples.proofs.Stored.Written.{lists_known, reader_lists, tables_kept}
 use Rattle.sst_examples.proofs.store.Store.find.Goals as goal

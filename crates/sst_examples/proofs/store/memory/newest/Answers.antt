@@ -1,7 +1,5 @@
 use Rattle.std.proofs.Common.{◌≡◌, ◌+◌, Some, ◌∙◌, ap, sym, arith}
-use Rattle.sst_base.specs.Entry.{Entry, plain}
-use Rattle.sst_block_core.specs.Entries.{entries}
-use Rattle.sst_block_core.specs.Window.{first_match}
+use Rattle.sstable_blocks.specs.Prelude.{Entry, plain, entries, first_match}
 use Rattle.sst_examples.proofs.Stored.Places.{all_at, found_here, found_later, found_none}
 use Rattle.sst_examples.proofs.store.memory.newest.Goals as goal
 

@@ -1,6 +1,5 @@
 use Rattle.std.proofs.Common.{◌≡◌, drop}
-use Rattle.sst_block_core.specs.Entries.{entries}
-use Rattle.sst_block_core.specs.Window.{first_match}
+use Rattle.sstable_blocks.specs.Prelude.{entries, first_match}
 use Rattle.sst_examples.proofs.store.memory.newest.Given as goal
 
 -- the first match is not before the index

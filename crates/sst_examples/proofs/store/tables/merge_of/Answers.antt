@@ -1,5 +1,5 @@
 use Rattle.std.proofs.Common.{◌+◌, ◌∙◌, ap, sym, arith}
-use Rattle.sst_base.specs.Entry.{Entry}
+use Rattle.sstable_blocks.specs.Prelude.{Entry}
 use Rattle.sst_merge.specs.Sources.{Left}
 use Rattle.sst_examples.proofs.Stored.Listed.{each_known}
 use Rattle.sst_examples.proofs.Stored.Written.{lists_all, lists_more}

@@ -1,5 +1,5 @@
 use Rattle.std.proofs.Common.{◌≡◌, Some, ◌∙◌, ap, subst, ℕ, List}
-use Rattle.sst_base.specs.Bytes.{IsBytes}
+use Rattle.sstable_blocks.specs.Prelude.{IsBytes}
 use Rattle.sst_examples.proofs.Stored.Listed.{table_opened}
 use Rattle.sst_examples.proofs.store.tables.open_table.Goals as goal
 

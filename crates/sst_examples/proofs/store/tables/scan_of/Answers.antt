@@ -1,5 +1,5 @@
 use Rattle.std.proofs.Common.{Some, map, ◌∙◌, ap, sym, subst}
-use Rattle.sst_base.specs.Entry.{plain}
+use Rattle.sstable_blocks.specs.Prelude.{plain}
 use Rattle.sst_examples.proofs.Stored.Listed.{table_run}
 use Rattle.sst_examples.specs.Tables.{table_hashes}
 use Rattle.sst_examples.proofs.store.tables.scan_of.Goals as goal

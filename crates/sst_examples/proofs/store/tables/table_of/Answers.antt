@@ -1,7 +1,7 @@
 use Rattle.std.proofs.Common.{Some, map, ◌∙◌, ap, sym, subst}
 use Rattle.std.specs.Option.{IfSome}
-use Rattle.sst_base.specs.Entry.{plain}
 use Rattle.xxh3.specs.Xxh3.{xxh3_64, xxh3_128}
+use Rattle.sstable_blocks.specs.Prelude.{plain}
 use Rattle.sst_merge.specs.MappedLaws.{none_entries}
 use Rattle.sst_merge.specs.TableLaws.{none_left}
 use Rattle.sst_merge.specs.Tables.{IsTableOf, entries_in}

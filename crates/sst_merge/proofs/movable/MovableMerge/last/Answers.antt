@@ -1,7 +1,7 @@
 use Rattle.std.proofs.Common.{◌<◌, ◌≡◌, arith, length, map, rules, subst, true, ◌∙◌}
 use Rattle.std.proofs.lemmas.List.{length-map}
 use Rattle.std.specs.Option.{IfSome}
-use Rattle.sst_block_core.specs.Window.{some_left}
+use Rattle.sstable_blocks.specs.Prelude.{some_left}
 use Rattle.sst_merge.specs.Movable.{IsBackPick}
 use Rattle.sst_merge.specs.Moved.{are_known, windows}
 use Rattle.sst_merge.proofs.Moving.MovableLaws.{same_source}

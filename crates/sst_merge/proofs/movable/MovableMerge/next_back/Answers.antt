@@ -1,6 +1,6 @@
 use Rattle.std.proofs.Common.{◌<◌, ◌≡◌, length, map, rules, subst, sym, true}
 use Rattle.std.specs.Option.{IfSome}
-use Rattle.sst_block_core.specs.Window.{some_left}
+use Rattle.sstable_blocks.specs.Prelude.{some_left}
 use Rattle.sst_merge.specs.Movable.{IsBackPick}
 use Rattle.sst_merge.specs.Moved.{MayStop, are_known, windows}
 use Rattle.sst_merge.proofs.Moving.MovableLaws.{same_source}

@@ -1,6 +1,5 @@
 use Rattle.std.proofs.Common.{ap, slice_get, subst, sym, ◌∙◌}
-use Rattle.sst_base.specs.Entry.{Entry}
-use Rattle.sst_block_core.specs.Window.{Window}
+use Rattle.sstable_blocks.specs.Prelude.{Entry, Window}
 use Rattle.sstable_blocks.specs.Blocks.{joined}
 use Rattle.sst_merge.specs.MovableBlocks.{HoldsFront, block_lists, front_place}
 use Rattle.sst_merge.proofs.Moving.BlockEnds.{front_item, front_none}

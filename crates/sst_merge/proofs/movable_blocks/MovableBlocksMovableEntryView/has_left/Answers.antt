@@ -1,8 +1,7 @@
 use Rattle.std.proofs.Common.{◌≡◌, ◌<◌, Some, arith, ap, false, nat_eq, nat_lt, subst, sym, ◌∙◌}
 use Rattle.std.proofs.lemmas.Bool.{lt-ltb}
 use Rattle.std.proofs.lemmas.Bool.Decides.{nat_tests}
-use Rattle.sst_base.specs.Entry.{Entry}
-use Rattle.sst_block_core.specs.Window.{Window, some_left}
+use Rattle.sstable_blocks.specs.Prelude.{Entry, Window, some_left}
 use Rattle.sst_merge.specs.MovableBlocks.{HoldsBack, HoldsFront, back_place, block_lists, front_place}
 use Rattle.sst_merge.proofs.Moving.BlockEnds.{left_later, none_at_end, none_earlier}
 use Rattle.sst_merge.proofs.movable_blocks.MovableBlocksMovableEntryView.has_left.Goals as goal

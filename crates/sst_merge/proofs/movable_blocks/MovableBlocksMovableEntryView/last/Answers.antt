@@ -1,6 +1,5 @@
 use Rattle.std.proofs.Common.{ap, subst, sym, ◌∙◌}
-use Rattle.sst_base.specs.Entry.{Entry}
-use Rattle.sst_block_core.specs.Window.{Window}
+use Rattle.sstable_blocks.specs.Prelude.{Entry, Window}
 use Rattle.sstable_blocks.specs.Blocks.{joined}
 use Rattle.sst_merge.specs.Movable.{item_before}
 use Rattle.sst_merge.specs.MovableBlocks.{HoldsBack, back_place, block_lists}

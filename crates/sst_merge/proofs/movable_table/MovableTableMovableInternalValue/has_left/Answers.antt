@@ -1,7 +1,7 @@
 use Rattle.std.proofs.Common.{◌≡◌, ◌<◌, arith, false, nat_eq, nat_lt, ◌∙◌}
 use Rattle.std.proofs.lemmas.Bool.{lt-ltb}
 use Rattle.std.proofs.lemmas.Bool.Decides.{nat_tests}
-use Rattle.sst_block_core.specs.Window.{some_left}
+use Rattle.sstable_blocks.specs.Prelude.{some_left}
 use Rattle.sstable_blocks.specs.RunReading.{hashes}
 use Rattle.sst_merge.proofs.Moving.TableEnds.{none_at_front, none_before, some_later, table_shown}
 use Rattle.sst_merge.proofs.movable_table.MovableTableMovableInternalValue.has_left.Goals as goal

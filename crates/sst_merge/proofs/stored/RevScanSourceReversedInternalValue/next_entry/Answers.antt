@@ -1,8 +1,8 @@
 use Rattle.std.proofs.Common.{◌<◌, Ok, Err}
 use Rattle.std.specs.Prelude.{reverse}
+use Rattle.sstable_blocks.specs.Prelude.{Entry}
 use Rattle.sstable_blocks.specs.RunReading.{hashes}
 use Rattle.sstable_blocks.specs.Scans.{most_left, reads_left}
-use Rattle.sst_base.specs.Entry.{Entry}
 use Rattle.sst_merge.specs.FailureLaws.{scan_fails_back, scan_no_more_back}
 use Rattle.sst_merge.specs.Stored.{scan_list}
 use Rattle.sst_merge.proofs.stored.RevScanSourceReversedInternalValue.next_entry.Goals as goal

@@ -1,9 +1,9 @@
 use Rattle.std.proofs.Common.{◌<◌}
 use Rattle.std.specs.Option.{option_map}
+use Rattle.sstable_blocks.specs.Prelude.{Entry}
 use Rattle.sstable_blocks.specs.RunReading.{hashes}
 use Rattle.sstable_blocks.specs.Scans.{most_left, reads_left}
 use Rattle.sst_merge.specs.FailureLaws.{scan_fails, scan_no_more}
-use Rattle.sst_base.specs.Entry.{Entry}
 use Rattle.sst_merge.specs.Stored.{read_errors, scan_list}
 use Rattle.sst_merge.specs.StoredLaws.{scan_step}
 use Rattle.sst_merge.proofs.stored.ScanSourceInternalValue.next_entry.Goals as goal

@@ -1,5 +1,5 @@
 use Rattle.std.proofs.Common.{◌<◌, ◌≡◌, IfOk, ap, ◌∙◌}
-use Rattle.sst_base.specs.Counted.{CountsBetween}
+use Rattle.sstable_blocks.specs.Prelude.{CountsBetween}
 use Rattle.sst_merge.specs.Stored.{table_list}
 use Rattle.sst_merge.specs.FailureLaws.{table_fails}
 use Rattle.sst_merge.specs.TableReads.{table_found, mapped}

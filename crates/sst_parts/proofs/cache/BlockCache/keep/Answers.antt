@@ -1,7 +1,7 @@
 use Rattle.std.proofs.Common.{◌≡◌, ℕ, ◌-◌, ◌∷◌, None, length, arith, sym, ◌∙◌, ap, subst}
 use Rattle.std.specs.List.{AllByRecursion}
 use Rattle.lru.specs.LruCache.{LruCache}
-use Rattle.sst_block_core.specs.DataBlock.{DataBlockParts}
+use Rattle.sstable_blocks.specs.Prelude.{DataBlockParts}
 use Rattle.sst_parts.specs.Caches.{CacheParts, IsKept, Kept, fitting, is_place, kept_at, kept_bytes}
 use Rattle.sst_parts.proofs.Cached.Caching.{absent_fitting, all_fitting}
 use Rattle.sstable_blocks.specs.RunReading.{hashes}

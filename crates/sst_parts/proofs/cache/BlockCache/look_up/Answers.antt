@@ -1,7 +1,7 @@
 use Rattle.std.proofs.Common.{◌≡◌, ℕ, refl, sym, ◌∙◌, ap, subst}
 use Rattle.std.specs.List.{AllByRecursion}
 use Rattle.lru.specs.LruCache.{LruCache}
-use Rattle.sst_block_core.specs.DataBlock.{DataBlockParts}
+use Rattle.sstable_blocks.specs.Prelude.{DataBlockParts}
 use Rattle.sst_parts.proofs.Cached.Caching.{all_promoted, bytes_promoted, lookup_promoted, looked_up_found, looked_up_missed}
 use Rattle.sst_parts.specs.Caches.{CacheParts, IsKept, is_place, kept_at, kept_bytes, looked_up, one_more}
 use Rattle.sstable_blocks.specs.RunReading.{hashes}

@@ -1,8 +1,5 @@
 use Rattle.std.proofs.Common.{◌≡◌, ◌≤◌, ℕ, List, Option, length, ap, ◌∙◌, sym, subst, refl, IfOk}
-use Rattle.sst_base.specs.BlockHandle.{HandleParts}
-use Rattle.sst_block_core.specs.Entries.{entries}
-use Rattle.sst_block_core.specs.Handles.{Handle, handles}
-use Rattle.sst_block_core.specs.Kind.{IsOrdered}
+use Rattle.sstable_blocks.specs.Prelude.{HandleParts, entries, Handle, handles, IsOrdered}
 use Rattle.sstable_blocks.specs.SourceLaws.{if_ok_map}
 use Rattle.sst_parts.proofs.Writing.Closings.{parted_by, tops_ordered, tops_some}
 use Rattle.sst_parts.specs.PartWriting.{AppendsParted, AppendsTop, ClosedView}

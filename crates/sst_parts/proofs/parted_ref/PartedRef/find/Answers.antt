@@ -1,7 +1,5 @@
 use Rattle.std.proofs.Common.{◌≡◌, Some, None, sym, subst, ◌∙◌}
-use Rattle.sst_base.specs.Counted.{CountsBetween}
-use Rattle.sst_block_core.specs.Entries.{entries}
-use Rattle.sst_block_core.specs.Window.{first_match}
+use Rattle.sstable_blocks.specs.Prelude.{CountsBetween, entries, first_match}
 use Rattle.sst_parts.specs.PartChecks.{ForParted}
 use Rattle.sst_parts.specs.Parts.{parted_most}
 use Rattle.sst_parts.proofs.Checks.PartFinds.{find_none, find_some}

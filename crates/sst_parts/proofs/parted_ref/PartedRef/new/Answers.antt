@@ -1,5 +1,5 @@
 use Rattle.std.proofs.Common.{List, Ok, ap, sym, ◌∙◌}
-use Rattle.sst_block_core.specs.Handles.{Handle}
+use Rattle.sstable_blocks.specs.Prelude.{Handle}
 use Rattle.sstable_blocks.specs.RunReading.{hashes}
 use Rattle.sst_parts.proofs.parted_ref.PartedRef.new.Goals as goal
 
@@ -18,10 +18,10 @@ pub returns-clause-tops : goal.returns-clause-tops
 returns-clause-tops g c =
     let s = c.requires in
     let i = c.parted_index_is_read.ensures (hashes g.H.BlockHash.hash64 g.H.BlockHash.hash128) s.0 c.args.bytes.now c.args.top.now g.met.H.BlockHash.hash128_fits s.1 in
-    i.read ∙ ap (λ (hs : List Handle). Ok hs) (sym (c.index_over.ensures i.items i.interval i.is_block).0)
+    i.read ∙ ap (λ (hs : List Handle). Ok hs) (sym (c.index_over.ensures.read i.items i.interval i.is_block).0)
 
 pub invariant_of-result : goal.invariant_of-result
 invariant_of-result g c =
     let s = c.requires in
     let i = c.parted_index_is_read.ensures (hashes g.H.BlockHash.hash64 g.H.BlockHash.hash128) s.0 c.args.bytes.now c.args.top.now g.met.H.BlockHash.hash128_fits s.1 in
-    (s, i.read ∙ ap (λ (hs : List Handle). Ok hs) (sym (c.index_over.ensures i.items i.interval i.is_block).0))
+    (s, i.read ∙ ap (λ (hs : List Handle). Ok hs) (sym (c.index_over.ensures.read i.items i.interval i.is_block).0))

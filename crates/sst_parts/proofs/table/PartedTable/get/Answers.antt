@@ -1,5 +1,5 @@
 use Rattle.std.proofs.Common.{◌≡◌, ◌<◌, Ok, subst, IfSome}
-use Rattle.sst_block_core.specs.Handles.{handles}
+use Rattle.sstable_blocks.specs.Prelude.{handles}
 use Rattle.sst_parts.specs.Parts.{read_by_top, tops_at}
 use Rattle.sst_parts.proofs.Writing.Sounds.{sound_on}
 use Rattle.sstable_blocks.specs.Lookup.{handle_for}

@@ -1,5 +1,7 @@
 use Rattle.std.proofs.Common.{arith}
 use Rattle.sst_parts.proofs.Reading.FileOpenings.{file_on, footer_fails_first}
+use Rattle.sstable_blocks.specs.Footer.{table_handles}
+use Rattle.sstable_blocks.specs.FrameCountLaws.{exactly, goes_on, stops_as}
 use Rattle.sstable_blocks.specs.RunReading.{hashes}
 use Rattle.sst_parts.proofs.table.PartedTable.open_file.Goals as goal
 
@@ -11,3 +13,14 @@ returns-in-Ok-clause-exact g c =
 
 pub returns-in-Err-clause-exact : goal.returns-in-Err-clause-exact
 returns-in-Err-clause-exact g c = footer_fails_first (hashes g.H.BlockHash.hash64 g.H.BlockHash.hash128) _ _ _ _ c.in-Err.ensures.exact
+
+pub returns-in-Ok-clause-asked : goal.returns-in-Ok-clause-asked
+returns-in-Ok-clause-asked g c =
+    let f = c.in-Ok.ensures in
+    let o = c.open.ensures in
+    goes_on _ _ _ _ _ _ _ _ 1 _ _ table_handles (λ all h. 1) f.source.same f.source.asks.1 f.source.failures_grow o.source.failures_grow f.exact (exactly _ _ _ _ _ 1 _ o.source.asks)
+
+pub returns-in-Err-clause-asked : goal.returns-in-Err-clause-asked
+returns-in-Err-clause-asked g c =
+    let e = c.in-Err.ensures in
+    stops_as _ _ _ _ _ 1 _ _ table_handles (λ all h. 1) e.asked e.exact

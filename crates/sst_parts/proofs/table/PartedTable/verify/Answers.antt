@@ -1,5 +1,5 @@
 use Rattle.std.proofs.Common.{◌<◌, ◌^◌, arith, subst, IfSome}
-use Rattle.sst_base.specs.Bytes.{IsBytes}
+use Rattle.sstable_blocks.specs.Prelude.{IsBytes}
 use Rattle.sst_parts.specs.PartChecks.{check_parted}
 use Rattle.sst_parts.proofs.Checks.PartCheckSteps.{accepts_by, by_kept, sound_by}
 use Rattle.sstable_blocks.specs.RunReading.{hashes}

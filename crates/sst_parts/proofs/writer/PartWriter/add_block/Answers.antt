@@ -1,6 +1,6 @@
 use Rattle.std.proofs.Common.{◌≡◌, ◌-◌, ◌++◌, ◌∷◌, [], ℕ, map, List, ap, sym, ◌∙◌, subst}
 use Rattle.std.proofs.lemmas.Result.{err_from_is_err_and}
-use Rattle.sst_base.specs.Entry.{Entry}
+use Rattle.sstable_blocks.specs.Prelude.{Entry}
 use Rattle.sst_parts.proofs.Writing.Blocks.{follows_next, full_some, open_next}
 use Rattle.sst_parts.specs.PartWriting.{NextFits, PartFileFits, PartWriting, blocks_so_far, data_len, is_full}
 use Rattle.sstable_blocks.specs.Run.{form}

@@ -1,8 +1,6 @@
 use Rattle.std.proofs.Common.{◌++◌, ◌∷◌, [], List, sym, subst}
 use Rattle.std.proofs.lemmas.Result.{err_from_is_err_and}
-use Rattle.sst_base.specs.Entry.{Entry}
-use Rattle.sst_block_core.specs.Entries.{entries}
-use Rattle.sst_block_core.specs.Kind.{IsOrdered}
+use Rattle.sstable_blocks.specs.Prelude.{Entry, entries, IsOrdered}
 use Rattle.sst_parts.proofs.Writing.Blocks.{ordered_push}
 use Rattle.sst_parts.specs.PartWriting.{AppendsParted, EndFits, PartWriting, TopFits}
 use Rattle.sstable_blocks.specs.Blocks.{joined}

@@ -1,5 +1,5 @@
 use Rattle.std.proofs.Common.{◌<◌, None}
-use Rattle.sst_base.specs.Entry.{Entry}
+use Rattle.sstable_blocks.specs.Prelude.{Entry}
 use Rattle.sst_merge.specs.FailureLaws.{scan_fails, scan_fails_back, scan_no_more_back}
 use Rattle.sstable_blocks.specs.RunReading.{hashes}
 use Rattle.sst_parts.specs.AnyScans.{ended_in, left_in, most_in, source_of}

@@ -4,7 +4,8 @@ use Rattle.std.proofs.Common.{Bool, arith, cond, refl}
 use Rattle.std.proofs.lemmas.Result.{err_from_is_err_and}
 use Rattle.sstable_blocks.specs.RunReading.{filter_says}
 use Rattle.sstable_blocks.specs.FrameCounts.{frames_to, read_frames}
-use Rattle.sstable_blocks.proofs.Reading.FrameCounts.{goes_on, if_allowed, if_denied, stops}
+use Rattle.sstable_blocks.specs.FrameCountLaws.{goes_on, stops}
+use Rattle.sstable_blocks.proofs.Reading.FrameCounts.{if_allowed, if_denied}
 use Rattle.sstable_blocks.proofs.run.checked.read_in_stages.Goals as goal
 
 pub returns-then-branch-clause-exact : goal.returns-then-branch-clause-exact

@@ -5,7 +5,7 @@ use Rattle.sstable_blocks.proofs.Checks.RunCheckSteps.{index_fail}
 use Rattle.sstable_blocks.specs.FrameCounts.{blocks_frames}
 use Rattle.sstable_blocks.specs.RunChecks.{none_passed}
 use Rattle.sstable_blocks.specs.RunReading.{handles_at}
-use Rattle.sstable_blocks.proofs.Reading.FrameCounts.{goes_on, stops, whole}
+use Rattle.sstable_blocks.specs.FrameCountLaws.{goes_on, stops, whole}
 use Rattle.sstable_blocks.proofs.run.checking.check_by_index.Goals as goal
 
 pub returns-in_err-passed-clause-exact : goal.returns-in_err-passed-clause-exact

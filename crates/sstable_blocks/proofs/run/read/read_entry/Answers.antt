@@ -17,14 +17,14 @@ returns-then-not-is_allowed-clause-found g c = λ blocks sound.
     let denied = subst (λ xs. IsDenied xs c.args.handles.now.filter c.hash64.result) c.as_slice-data.ensures (c.is_allowed.ensures.0 c.if-not-is_allowed.true) in
     found_denied _ _ _ _ c.args.needle.now c.args.seqno o _ c.hash64.ensures denied
 
-pub index_over-index-requires-clause-range : goal.index_over-index-requires-clause-range
-index_over-index-requires-clause-range g c =
+pub index_over-requires-clause-range : goal.index_over-requires-clause-range
+index_over-requires-clause-range g c =
     let s = c.requires.sound in
     let o = c.sound_opens.ensures (hashes g.H.BlockHash.hash64 g.H.BlockHash.hash128) s.0 _ _ s.1 in
     subst (λ xs. IsFrameRange xs c.args.handles.now.index) (sym c.as_slice-data.ensures) o.index_range
 
-pub index_over-index-requires-clause-index : goal.index_over-index-requires-clause-index
-index_over-index-requires-clause-index g c =
+pub index_over-requires-clause-index : goal.index_over-requires-clause-index
+index_over-requires-clause-index g c =
     let s = c.requires.sound in
     let o = c.sound_opens.ensures (hashes g.H.BlockHash.hash64 g.H.BlockHash.hash128) s.0 _ _ s.1 in
     let at = c.args.handles.now.index in

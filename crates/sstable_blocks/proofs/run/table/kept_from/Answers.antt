@@ -4,7 +4,7 @@ use Rattle.sstable_blocks.specs.RunReading.{hashes}
 use Rattle.sstable_blocks.specs.KeptLaws.{opened_on, kept_ok, filter_fails, index_fails}
 use Rattle.sstable_blocks.specs.Tables.{filter_kept}
 use Rattle.sstable_blocks.specs.FrameCounts.{open_frames}
-use Rattle.sstable_blocks.proofs.Reading.FrameCounts.{exactly, goes_on, stops}
+use Rattle.sstable_blocks.specs.FrameCountLaws.{exactly, goes_on, stops}
 use Rattle.sstable_blocks.proofs.run.table.kept_from.Goals as goal
 
 pub returns-in_err-filter-clause-exact : goal.returns-in_err-filter-clause-exact

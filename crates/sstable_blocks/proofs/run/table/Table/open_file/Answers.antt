@@ -3,7 +3,7 @@ use Rattle.sstable_blocks.specs.RunReading.{hashes}
 use Rattle.sstable_blocks.specs.KeptLaws.{file_on, footer_fails_first}
 use Rattle.sstable_blocks.specs.Footer.{table_handles}
 use Rattle.sstable_blocks.specs.FrameCounts.{file_frames, open_frames}
-use Rattle.sstable_blocks.proofs.Reading.FrameCounts.{goes_on, stops_as}
+use Rattle.sstable_blocks.specs.FrameCountLaws.{goes_on, stops_as}
 use Rattle.sstable_blocks.proofs.run.table.Table.open_file.Goals as goal
 
 pub returns-in-Ok-clause-exact : goal.returns-in-Ok-clause-exact

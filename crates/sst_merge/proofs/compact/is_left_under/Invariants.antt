@@ -1,0 +1,19 @@
+use Rattle.std.proofs.Common.{◌≡◌, ◌≤◌, List, ℕ, Bool, Some}
+use Rattle.std.specs.Option.{option_map}
+use Rattle.sst_merge.specs.Compact.{compact_from, is_left_under}
+use Rattle.sst_merge.specs.Sources.{MeetsNoMore, with_held}
+use Rattle.sst_merge.proofs.compact.is_left_under.Given as goal
+
+abbrev pub invariant-loop-item : goal.invariant-loop-item
+invariant-loop-item g l =
+    let now = with_held l.source.held (g.I.Source.left l.source.source) in
+    let before = with_held l.fn.source.held (g.I.Source.left l.fn.source.source) in
+    record {
+      found : option_map (is_left_under g.T.AsEntry.entry l.fn.snapshots l.fn.last) now.list ≡ option_map (is_left_under g.T.AsEntry.entry l.fn.snapshots l.fn.last) before.list;
+      same : (bottom : List ℕ → Bool) → option_map (compact_from g.T.AsEntry.entry l.fn.snapshots bottom (Some l.fn.last)) now.list ≡ option_map (compact_from g.T.AsEntry.entry l.fn.snapshots bottom (Some l.fn.last)) before.list;
+      most : now.most ≤ before.most;
+      no_more : MeetsNoMore (g.I.Source.left l.fn.source.source) (g.I.Source.left l.source.source);
+    }
+
+abbrev pub decreases-loop-item : goal.decreases-loop-item
+decreases-loop-item g l = (with_held l.source.held (g.I.Source.left l.source.source)).most
