@@ -181,8 +181,8 @@ fn continued128(so_far: u128, bytes: &[u8]) -> u128
     })
 }
 
-// The hashes of the first four bytes, of the next four, and so on, of sixteen. The weights are those
-// of the first two bytes of each four, and of the other two.
+// The hashes of the first four bytes, of the next four, and so on, of sixteen. The weights are
+// those of the first two bytes of each four, and of the other two.
 #[inline(always)]
 fn four_hashes(bytes: &[u8]) -> [u32; 4]
     requires { 16 ≤ length bytes.now }

@@ -43,8 +43,8 @@ pub trait Input: Read {
     ///
     /// # Errors
     ///
-    /// `Error::Io` if the reader fails, or ends before `len` bytes. `Error::Memory` if an allocation
-    /// fails. What the vector holds is then unspecified.
+    /// `Error::Io` if the reader fails, or ends before `len` bytes. `Error::Memory` if an
+    /// allocation fails. What the vector holds is then unspecified.
     fn append(&mut self, buf: &mut Vec<u8>, len: usize) -> Result<()>
         ensures ok { OnOk result ((bytes : List ℕ)
             × Consumes (Self.remaining self.old) (Self.remaining self.new) bytes

@@ -9,8 +9,8 @@ use std::io::{self, BufWriter, Sink, Stdout, Write};
 /// A writer that takes whole byte strings.
 ///
 /// Clauses know of some writers that they never fail. What is written to any writer by a call that
-/// knows no more of it returns [`Error::Io`](crate::Error::Io) only where that writer failed in that call: it has no
-/// other way to show that the writer may fail.
+/// knows no more of it returns [`Error::Io`](crate::Error::Io) only where that writer failed in
+/// that call: it has no other way to show that the writer may fail.
 pub trait Output: Write {
     // a writer that never fails
     ghost never_fails: { Self → Type 0 } = { λ _. ⊥ };

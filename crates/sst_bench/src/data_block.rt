@@ -76,8 +76,8 @@ pub(crate) fn copy_front(out: &mut [u8], bytes: &[u8]) {
     out[..len].copy_from_slice(&bytes[..len]);
 }
 
-// Encodes the block `times` times, each time into the same vector, emptied first, and copies as much of
-// it into `out` as fits.
+// Encodes the block `times` times, each time into the same vector, emptied first, and copies as
+// much of it into `out` as fits.
 fn encode(
     alloc: Global,
     items: &[InternalValue],

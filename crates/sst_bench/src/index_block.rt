@@ -47,8 +47,8 @@ fn block_in(alloc: Global, bytes: &[u8], count: usize, interval: u8) -> Option<I
     Some(IndexBlock::new(Block::from_payload(BlockType::Index, payload)))
 }
 
-// Encodes the block `times` times, each time into the same vector, emptied first, and copies as much of
-// it into `out` as fits.
+// Encodes the block `times` times, each time into the same vector, emptied first, and copies as
+// much of it into `out` as fits.
 fn encode(
     alloc: Global,
     items: &[KeyedBlockHandle],

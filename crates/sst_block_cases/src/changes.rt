@@ -19,8 +19,8 @@ fn longer(alloc: Global, bytes: &[u8], by: usize) -> Result<Vec<u8>> {
     Ok(all)
 }
 
-/// Returns a copy of bytes with the change of a number: a cut before each byte, each byte changed to each other
-/// value, and six longer ones.
+/// Returns a copy of bytes with the change of a number: a cut before each byte, each byte changed
+/// to each other value, and six longer ones.
 pub fn changed(alloc: Global, bytes: &[u8], number: usize) -> Result<Vec<u8>> {
     let (at, by) = (number / 256, (number % 256) as u8);
     if at >= bytes.len() {

@@ -31,8 +31,8 @@ fn kind_of(word: &str) -> Result<Kind> {
     }
 }
 
-/// What the checks of some bytes return: the one that makes no table of the heads, the one that makes
-/// it, the one that borrows the block, and the one of bytes that are lent.
+/// What the checks of some bytes return: the one that makes no table of the heads, the one that
+/// makes it, the one that borrows the block, and the one of bytes that are lent.
 #[derive(Clone, Copy)]
 struct Checks {
     once: Checked,

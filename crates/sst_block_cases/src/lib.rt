@@ -1,8 +1,8 @@
 //! Files of cases, and the commands of cases on values and blocks.
 //!
-//! `runner` runs a file, `room` is what commands work on, `words` reads what a command is given. The
-//! commands stand in modules by what they are about. Each of these has a function `perform`, which
-//! returns the result of a command, or `None` where the command is none of the module's.
+//! `runner` runs a file, `room` is what commands work on, `words` reads what a command is given.
+//! The commands stand in modules by what they are about. Each of these has a function `perform`,
+//! which returns the result of a command, or `None` where the command is none of the module's.
 #![tactic(auto)]
 
 pub mod changes;

@@ -88,7 +88,8 @@ fn add_versions(alloc: Global, room: &mut Room, length: u8, each: u8) -> Result<
     Ok(())
 }
 
-/// Appends the keys k, kk, kkk and so on up to a length, and a number of versions of each: KEYS EACH.
+/// Appends the keys k, kk, kkk and so on up to a length, and a number of versions of each: KEYS
+/// EACH.
 fn add_prefixes(alloc: Global, room: &mut Room, words: &[&str]) -> Result<String> {
     let [keys, each] = words else {
         return Err(Fault::Word);

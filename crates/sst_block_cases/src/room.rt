@@ -14,9 +14,8 @@ pub struct KeptTable {
     pub bytes: Vec<u8>,
 }
 
-/// A list of entries, a list of handles, the payload of a block, a frame, a filter or a run, where the
-/// index and the filter of a run are, sources of a merge, tables, and the
-/// input of a program.
+/// A list of entries, a list of handles, the payload of a block, a frame, a filter or a run, where
+/// the index and the filter of a run are, sources of a merge, tables, and the input of a program.
 #[derive(Drop)]
 pub struct Room {
     pub entries: Vec<InternalValue>,

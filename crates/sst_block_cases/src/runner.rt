@@ -1,7 +1,7 @@
 //! Files of cases: a line `COMMAND => RESULT` is a case, all others are comments.
 //!
-//! A case is performed once. Where allocations may be refused, one that tells of that instead of its
-//! result is performed again, and then has to give its result.
+//! A case is performed once. Where allocations may be refused, one that tells of that instead of
+//! its result is performed again, and then has to give its result.
 
 use crate::fault::{Fault, Result};
 use crate::room::Room;
@@ -72,14 +72,14 @@ fn are_refused(found: &str, wanted: &str) -> bool {
     rest.next().is_none()
 }
 
-/// Whether an answer tells of a refused allocation, and of nothing else that is not wanted. A writer in
-/// memory that is refused room says `Io`.
+/// Whether an answer tells of a refused allocation, and of nothing else that is not wanted. A
+/// writer in memory that is refused room says `Io`.
 fn is_refused(found: &str, wanted: &str) -> bool {
     found == "Refused(Memory)" || found == "Refused(Io)" || are_refused(found, wanted)
 }
 
-/// A file of cases: its name, whether allocations may be refused, the number of the line that was read
-/// last, how many cases were read, how many of them hold, and how many were performed again.
+/// A file of cases: its name, whether allocations may be refused, the number of the line that was
+/// read last, how many cases were read, how many of them hold, and how many were performed again.
 #[derive(Drop)]
 struct File<'a> {
     name: &'a str,
@@ -140,7 +140,8 @@ fn print_counts<R: Print>(rt: &R, file: &File<'_>) -> Result<bool> {
     Ok(held == cases)
 }
 
-/// Runs the cases of a file. Prints those that do not hold, and how many hold. Returns whether all do.
+/// Runs the cases of a file. Prints those that do not hold, and how many hold. Returns whether all
+/// do.
 fn run<H: BlockHash, C: Commands<R>, R: Print + AllocGlobal>(
     rt: &R,
     name: &str,
@@ -180,12 +181,13 @@ fn run_file<C: Commands<R>, R: Files + Print + AllocGlobal>(
     }
 }
 
-/// Runs the cases of the files of these names, where allocations may be refused or not. Returns whether
-/// all hold.
+/// Runs the cases of the files of these names, where allocations may be refused or not. Returns
+/// whether all hold.
 ///
 /// # Errors
 ///
-/// `Fault::Io` if a file cannot be read or the output fails, `Fault::Refused` if an allocation fails.
+/// `Fault::Io` if a file cannot be read or the output fails, `Fault::Refused` if an allocation
+/// fails.
 pub fn run_files<C: Commands<R>, R: Files + Print + AllocGlobal>(
     rt: &R,
     names: &[String],

@@ -217,7 +217,8 @@ pub fn push_word(text: &mut String, word: &str) -> Result<()> {
     Ok(())
 }
 
-/// Words in a row, with a space between them. The first fault of one is kept: nothing is added after it.
+/// Words in a row, with a space between them. The first fault of one is kept: nothing is added
+/// after it.
 #[derive(Drop)]
 pub struct Row {
     text: String,

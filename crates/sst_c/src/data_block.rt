@@ -48,7 +48,8 @@ pub struct SstPlace {
 // The offset and the length of a range, if there is one.
 fn place_of_range(payload: &[u8], range: &Option<SliceIndexes>) -> (usize, usize)
     requires { IsOptionalRange payload.now range.now }
-    ensures bytes { bytes_behind payload.now result.0 result.1 ≡ optional_range payload.now range.now }
+    ensures bytes { bytes_behind payload.now result.0 result.1 ≡ optional_range payload.now
+        range.now }
     ensures inside { result.0 + result.1 ≤ length payload.now }
 {
     match range {
@@ -161,8 +162,8 @@ pub extern "C" fn sst_data_block_find(
     note_found(payload, key, below_seqno, place).code()
 }
 
-// Writes where the entries of a block are in the bytes that have its payload in them, from the first
-// place on.
+// Writes where the entries of a block are in the bytes that have its payload in them, from the
+// first place on.
 fn write_places(bytes: &[u8], start: usize, block: &DataBlockRef<'_, Xxh3>, places: &mut [SstPlace])
     requires part { IsPartAt bytes.now start block.now.payload }
     requires room { length block.now.items ≤ length places.old }
@@ -178,8 +179,8 @@ fn write_places(bytes: &[u8], start: usize, block: &DataBlockRef<'_, Xxh3>, plac
     }
 }
 
-/// Writes where all entries of a payload are in the bytes that have it in them, if there is room for
-/// them, and notes their number.
+/// Writes where all entries of a payload are in the bytes that have it in them, if there is room
+/// for them, and notes their number.
 pub(crate) fn list(
     bytes: &[u8],
     start: usize,

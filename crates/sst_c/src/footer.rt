@@ -1,5 +1,5 @@
-//! Footers of table files: their last 24 bytes, which say where the index and the filter of the run before
-//! them are.
+//! Footers of table files: their last 24 bytes, which say where the index and the filter of the run
+//! before them are.
 ghost use Rattle.std.specs.Prelude.{◌≡◌};
 ghost use Rattle.sst_c.specs.Codes.{code_of};
 ghost use Rattle.sst_c.specs.Footers.{IsFooterRead, IsFooterWrite};
@@ -26,11 +26,11 @@ fn read(file: &[u8], handles: &mut SstRunHandles) -> Status
     }
 }
 
-/// Reads where the index and the filter are in the run of a table file, from its last 24 bytes. The run is
-/// the bytes before these.
+/// Reads where the index and the filter are in the run of a table file, from its last 24 bytes. The
+/// run is the bytes before these.
 ///
-/// Returns 0 and the handles, whose filter has size 0 where there is none; or 7 if the file has fewer than 24
-/// bytes, and leaves `handles`.
+/// Returns 0 and the handles, whose filter has size 0 where there is none; or 7 if the file has
+/// fewer than 24 bytes, and leaves `handles`.
 #[unsafe(no_mangle)]
 pub extern "C" fn sst_footer_read(file: &[u8], handles: &mut SstRunHandles) -> u32
     ensures { (s : Status) × (result ≡ code_of s)

@@ -160,10 +160,10 @@ fn encode(
 /// by sequence number falling), at a restart interval of at least 1.
 ///
 /// Returns 0, and the length of the block, which is then the front of `out`; 18 where `out` is too
-/// short, and the length that is needed; 17 exactly where the handles can't be encoded: none, an end
-/// key of more than 65535 bytes, out of order, a frame that ends at 2^64 or above, an interval of 0;
-/// 6 only where the block has 2^32 bytes or more; 15 if an allocation fails. But for 0 `out` is
-/// left, and but for 0 and 18 `out_len`.
+/// short, and the length that is needed; 17 exactly where the handles can't be encoded: none, an
+/// end key of more than 65535 bytes, out of order, a frame that ends at 2^64 or above, an interval
+/// of 0; 6 only where the block has 2^32 bytes or more; 15 if an allocation fails. But for 0 `out`
+/// is left, and but for 0 and 18 `out_len`.
 #[unsafe(no_mangle)]
 pub extern "C" fn sst_index_block_encode(
     handles: &[SstKeyedHandle<'_>],

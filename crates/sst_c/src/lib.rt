@@ -1,7 +1,7 @@
 //! The block layer behind calls from C: `examples/c/sst.h` is the document for callers.
 //!
-//! Bytes and arrays are borrowed for the call; nothing that owns memory crosses, and nothing is kept
-//! between calls, so any thread may call. A call returns a code: see [`codes`].
+//! Bytes and arrays are borrowed for the call; nothing that owns memory crosses, and nothing is
+//! kept between calls, so any thread may call. A call returns a code: see [`codes`].
 #![tactic(auto)]
 
 pub mod codes;

@@ -199,8 +199,8 @@ fn note_found(
 }
 
 /// Finds the first entry of a key strictly below a sequence number in a run, by its filter and its
-/// index: in bytes and handles that [`sst_run_check`] accepted or [`sst_run_write`] wrote. No memory
-/// is taken, and nothing is copied; the offsets of the place are those in the run.
+/// index: in bytes and handles that [`sst_run_check`] accepted or [`sst_run_write`] wrote. No
+/// memory is taken, and nothing is copied; the offsets of the place are those in the run.
 ///
 /// Returns 0 and where the entry is, a tombstone too; or 16 if there is none, and leaves `place`.
 #[unsafe(no_mangle)]

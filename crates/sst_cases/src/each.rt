@@ -45,8 +45,8 @@ fn add<H: BlockHash>(
     }
 }
 
-/// Returns the number, among all changes of this many bytes, of the one with a number among those of
-/// single bits: a cut before each byte, each of its bits changed, and the longer ones.
+/// Returns the number, among all changes of this many bytes, of the one with a number among those
+/// of single bits: a cut before each byte, each of its bits changed, and the longer ones.
 fn flip_of(len: usize, number: usize) -> usize {
     let (at, by) = (number / 9, number % 9);
     if at >= len {
@@ -105,8 +105,8 @@ fn each_of<H: BlockHash>(
     Ok((accepted, results))
 }
 
-/// Performs a command with each change of the payload, or with each of a single bit: how many answers
-/// are no errors, and a digest of all: COMMAND WORD ..
+/// Performs a command with each change of the payload, or with each of a single bit: how many
+/// answers are no errors, and a digest of all: COMMAND WORD ..
 fn each<H: BlockHash>(
     alloc: Global,
     room: &mut Room,

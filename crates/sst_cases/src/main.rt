@@ -1,16 +1,16 @@
 //! Runs cases: the words name files, in which a line `COMMAND => RESULT` is a case.
 //!
-//! The ending of a name says which hash the blocks of a file have: `.sum`, `.zero`, `.poly` or `.xxh3`.
-//! Prints a line for each case that does not hold, with the file and the number of the line, and then
-//! how many cases of the file hold; the status is 1 if one does not.
+//! The ending of a name says which hash the blocks of a file have: `.sum`, `.zero`, `.poly` or
+//! `.xxh3`. Prints a line for each case that does not hold, with the file and the number of the
+//! line, and then how many cases of the file hold; the status is 1 if one does not.
 //!
 //! Behind the word `refused` it runs cases while allocations are refused: one that tells of that is
 //! performed again, and then has to give its result; how many were is printed too.
 //!
-//! The commands on frames, filters, runs and merges, on a store, and on the program `sst` stand here,
-//! in modules by what they are about; those on values and blocks are of `sst_block_cases`. Each module
-//! has a function `perform`, which returns the result of a command, or `None` where the command is
-//! none of the module's.
+//! The commands on frames, filters, runs and merges, on a store, and on the program `sst` stand
+//! here, in modules by what they are about; those on values and blocks are of `sst_block_cases`.
+//! Each module has a function `perform`, which returns the result of a command, or `None` where the
+//! command is none of the module's.
 #![tactic(auto)]
 
 mod each;

@@ -4,8 +4,8 @@ ghost use Rattle.std.specs.Prelude.{◌≡◌, ℕ, Bool, List};
 use crate::ranged::is_between;
 use sstable_blocks::UserKey;
 
-/// Says which user keys are at the bottom: in no list that is read together with the compacted one is
-/// an older version of the key.
+/// Says which user keys are at the bottom: in no list that is read together with the compacted one
+/// is an older version of the key.
 pub trait Bottom {
     // Is a user key at the bottom?
     ghost at_bottom: { Self → List ℕ → Bool };
@@ -24,8 +24,8 @@ impl Bottom for bool {
     }
 }
 
-/// Ranges of user keys, of each its first and its last key, in which all versions are that are older
-/// than those of the compacted list. A key outside of all is at the bottom (the law
+/// Ranges of user keys, of each its first and its last key, in which all versions are that are
+/// older than those of the compacted list. A key outside of all is at the bottom (the law
 /// `keys_outside_the_ranges_are_in_no_table`).
 #[derive(Drop)]
 pub struct OlderRanges {

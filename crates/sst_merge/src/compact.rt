@@ -12,16 +12,16 @@ use sstable_blocks::{AsEntry, Error, Result, SeqNo, UserKey};
 use std::alloc::Global;
 use std::marker::{Model, PhantomData};
 
-/// Ordered versions without those that no read at one of some snapshots, or at or above all of them,
-/// can see. A snapshot sees the versions strictly below its number. Of the versions that some snapshot
-/// sees one stays only if a snapshot sees it that sees no newer one of its key; so of each key one for
-/// each gap between two neighbouring snapshots. Of a key at the bottom, of which no older version is
-/// elsewhere, a tombstone goes too, unless a snapshot that does not see it sees an older version of
-/// the key. Where not every snapshot sees the tombstone, the next version that it does not hide is
-/// taken ahead, and held for the next step. The user key of each version that stays for a snapshot is
-/// copied, which takes memory above 40 bytes. An error ends the compaction, also one of a look ahead:
-/// each later step returns it again. Clauses see the versions left, where those of the source are
-/// known, and the error that ended the compaction, if one did.
+/// Ordered versions without those that no read at one of some snapshots, or at or above all of
+/// them, can see. A snapshot sees the versions strictly below its number. Of the versions that some
+/// snapshot sees one stays only if a snapshot sees it that sees no newer one of its key; so of each
+/// key one for each gap between two neighbouring snapshots. Of a key at the bottom, of which no
+/// older version is elsewhere, a tombstone goes too, unless a snapshot that does not see it sees an
+/// older version of the key. Where not every snapshot sees the tombstone, the next version that it
+/// does not hide is taken ahead, and held for the next step. The user key of each version that
+/// stays for a snapshot is copied, which takes memory above 40 bytes. An error ends the compaction,
+/// also one of a look ahead: each later step returns it again. Clauses see the versions left, where
+/// those of the source are known, and the error that ended the compaction, if one did.
 #[derive(Drop)]
 pub struct Compact<T: AsEntry, I: Source<T>, B: Bottom> {
     source: Ahead<T, I>,
@@ -45,9 +45,9 @@ impl<T: AsEntry, I: Source<T>, B: Bottom> Model for Compact<T, I, B> {
 }
 
 impl<T: AsEntry, I: Source<T>, B: Bottom> Compact<T, I, B> {
-    /// Compacts ordered versions for the reads at these snapshots, in any order, and at or above all
-    /// of them; no other read may be wanted any more. `bottom` says of which keys no older version is
-    /// elsewhere.
+    /// Compacts ordered versions for the reads at these snapshots, in any order, and at or above
+    /// all of them; no other read may be wanted any more. `bottom` says of which keys no older
+    /// version is elsewhere.
     pub fn new(source: I, snapshots: Vec<SeqNo>, bottom: B) -> Compact<T, I, B>
         ensures { result ≡ left_as
             (compacted T.entry snapshots.items (B.at_bottom bottom)) None (I.left source) }
@@ -205,7 +205,8 @@ fn goes<T: AsEntry + Drop, I: Source<T>, B: Bottom>(
     Ok(!is_left)
 }
 
-// Takes versions from a source up to the first that stays, and notes the last one that is not hidden.
+// Takes versions from a source up to the first that stays, and notes the last one that is not
+// hidden.
 #[inline(always)]
 fn next_staying<T: AsEntry + Drop, I: Source<T>, B: Bottom>(
     alloc: Global,

@@ -82,9 +82,9 @@ pub fn write_tables<H: BlockHash, T: Ranked + AsEntry + Drop, I: Source<T>, O: O
     }
 }
 
-/// Compacts what is left of a source, which is in order: writes as tables the versions that a read at
-/// one of some snapshots, or at or above all of them, can see. `bottom` says of which keys no older
-/// version is elsewhere; their tombstones may go too. See [`Compact`].
+/// Compacts what is left of a source, which is in order: writes as tables the versions that a read
+/// at one of some snapshots, or at or above all of them, can see. `bottom` says of which keys no
+/// older version is elsewhere; their tombstones may go too. See [`Compact`].
 ///
 /// What such a read sees of the tables is what it sees of the source, also together with newer and
 /// older lists (the laws `compaction_keeps_reads` and `levels_keep_reads`).

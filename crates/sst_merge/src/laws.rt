@@ -56,9 +56,9 @@ pub fn snapshot_is_read()
         ≡ seen (first_match entries needle seqno items) }
 {}
 
-/// A compaction of an ordered list changes no read at one of its snapshots, or at or above all of them,
-/// and keeps the order. Of a key that is not at the bottom such a read finds the same version, also
-/// where it is a tombstone.
+/// A compaction of an ordered list changes no read at one of its snapshots, or at or above all of
+/// them, and keeps the order. Of a key that is not at the bottom such a read finds the same
+/// version, also where it is a tombstone.
 pub fn compaction_keeps_reads()
     ensures above { (snapshots : List ℕ) (bottom : List ℕ → Bool) (needle : List ℕ) (seqno : ℕ)
         (items : List Entry)
@@ -74,10 +74,10 @@ pub fn compaction_keeps_reads()
         → IsOrdered entries (compacted (λ e. e) snapshots bottom items) }
 {}
 
-/// A compaction of one list among newer and older ones, as the levels of a store are, changes no read
-/// of all of them together that it is to keep. Of a key that is not at the bottom the read finds the
-/// same version, whatever the other lists have. Of one that is, a reader sees the same, where no older
-/// list has the key, and no newer list an older version of a key than this one.
+/// A compaction of one list among newer and older ones, as the levels of a store are, changes no
+/// read of all of them together that it is to keep. Of a key that is not at the bottom the read
+/// finds the same version, whatever the other lists have. Of one that is, a reader sees the same,
+/// where no older list has the key, and no newer list an older version of a key than this one.
 pub fn levels_keep_reads()
     ensures above { (snapshots : List ℕ) (bottom : List ℕ → Bool) (needle : List ℕ) (seqno : ℕ)
         (newer : List (List Entry)) (items : List Entry) (older : List (List Entry))
@@ -112,16 +112,16 @@ pub fn snapshot_shows()
 {}
 
 /// What a compaction leaves of an ordered list, said by each version, those before it and those
-/// behind it: no snapshot sees it; or one sees it that sees no version of its key before it, and it is
-/// no tombstone at the bottom, or a snapshot sees a version of its key behind it and not it.
+/// behind it: no snapshot sees it; or one sees it that sees no version of its key before it, and it
+/// is no tombstone at the bottom, or a snapshot sees a version of its key behind it and not it.
 pub fn compaction_leaves()
     ensures { (snapshots : List ℕ) (bottom : List ℕ → Bool) (items : List Entry)
         → IsOrdered entries items
         → compacted (λ e. e) snapshots bottom items ≡ staying (λ e. e) snapshots bottom items }
 {}
 
-/// A merge of ordered lists from the last item to the first is the merge of the lists from the back,
-/// the last list first, in the opposite order.
+/// A merge of ordered lists from the last item to the first is the merge of the lists from the
+/// back, the last list first, in the opposite order.
 pub fn merge_is_reversed()
     ensures { (lists : List (List Entry)) → AllByRecursion (IsOrdered entries) lists
         → merged (flip_args entry_cmp) (reverse (map reverse lists))
@@ -134,8 +134,8 @@ pub fn scan_is_known()
     ensures { (items : List Entry) → known_reads (map Ok items) ≡ Some items }
 {}
 
-/// The list of a table over the bytes of a sound run is known, so that its ends may be moved: it is the
-/// run's entries, as decoded, and reading it gives no error.
+/// The list of a table over the bytes of a sound run is known, so that its ends may be moved: it is
+/// the run's entries, as decoded, and reading it gives no error.
 pub fn sound_table_is_known()
     ensures { (c : Hashes) (blocks : List (List Entry)) (bytes : List ℕ) (h : RunHandles)
         (index : List Handle) → ((xs : List ℕ) → c.hash128 xs < 2 ^ 128)

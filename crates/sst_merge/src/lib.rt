@@ -1,5 +1,5 @@
-//! Reads and merges of a storage engine over tables: ordered merges of any number of sources, what a
-//! snapshot sees, and compaction. It stands on the public contracts of the block layer alone.
+//! Reads and merges of a storage engine over tables: ordered merges of any number of sources, what
+//! a snapshot sees, and compaction. It stands on the public contracts of the block layer alone.
 #![tactic(auto)]
 
 mod block_len;

@@ -7,7 +7,8 @@ ghost use Rattle.sst_merge.specs.Merge.{merged};
 ghost use Rattle.sst_merge.specs.Picks.{IsPick, goes};
 ghost use Rattle.sst_merge.specs.Sources.{TakesFirst, PassesFirst, all_left};
 ghost use Rattle.sst_merge.specs.Sources.{MayGive, MeetsNoMore};
-ghost use Rattle.sst_merge.specs.Tournament.{AreWinners, AreSeats, IsFirstOf, IsTournament, MayBeTournament};
+ghost use Rattle.sst_merge.specs.Tournament.{AreWinners, AreSeats, IsFirstOf, IsTournament};
+ghost use Rattle.sst_merge.specs.Tournament.{MayBeTournament};
 ghost use Rattle.sstable_blocks.specs.Results.{Memory};
 ghost use Rattle.sstable_blocks.specs.Scans.{EndsBy};
 
@@ -81,8 +82,8 @@ impl<T: Ranked + Drop, I: Source<T> + Drop> Head<T, I> {
 }
 
 impl<T: Ranked, I: Source<T>> Head<T, I> {
-    /// Returns the version that is held: the first one left, if there is one. An error that ends the
-    /// source leaves it, so it is still shown, though no later step gives it.
+    /// Returns the version that is held: the first one left, if there is one. An error that ends
+    /// the source leaves it, so it is still shown, though no later step gives it.
     #[inline(always)]
     pub fn peek(&self) -> Option<&T>
         ensures first { IfSome self.now.list
@@ -232,8 +233,8 @@ fn play<T: Ranked, I: Source<T>>(heads: &[Head<T, I>], places: &[usize], k: usiz
     better(heads, places[2 * k], places[2 * k + 1])
 }
 
-// Makes a stale place of a tournament and those above it, and returns the source whose version comes
-// first.
+// Makes a stale place of a tournament and those above it, and returns the source whose version
+// comes first.
 #[inline(always)]
 fn play_up<T: Ranked, I: Source<T>>(
     heads: &[Head<T, I>],
@@ -368,8 +369,8 @@ pub struct Merge<T: Ranked, I: Source<T>> {
     heads: Vec<Head<T, I>>,
     // Of n sources, source i stands at place n + i, and at place k before that the one of the
     // sources at places 2 k and 2 k + 1 whose version comes first; before the first step there are
-    // no places. What stands at a stale place and at those above it (half of it, and so on) is still
-    // to be made; 0 is no place.
+    // no places. What stands at a stale place and at those above it (half of it, and so on) is
+    // still to be made; 0 is no place.
     places: Vec<usize>,
     stale: usize,
     ended: Option<Error>,

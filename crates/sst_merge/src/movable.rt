@@ -47,8 +47,8 @@ impl<'a> Keyed for EntryView<'a> {
     ghost by_key = { entry_by_key };
 }
 
-/// An ordered list with a front and a back, each of which is moved over the whole list, whatever the
-/// other one is.
+/// An ordered list with a front and a back, each of which is moved over the whole list, whatever
+/// the other one is.
 ///
 /// An error ends the source: each later step and search returns it again.
 pub trait Movable<T: Keyed> {
@@ -57,8 +57,8 @@ pub trait Movable<T: Keyed> {
     // how many frames it asked for, and where its blocks begin
     ghost moved: { Self → Moved T };
 
-    // The errors that any step may give, whatever the list: those of an allocation, where a step takes
-    // memory, and of a device.
+    // The errors that any step may give, whatever the list: those of an allocation, where a step
+    // takes memory, and of a device.
     ghost may_fail: { Error → Type 0 };
 
     /// Returns the item after the front, whatever the back is.
@@ -77,9 +77,9 @@ pub trait Movable<T: Keyed> {
 
     /// Takes the item after the front, if there is one, whatever the back is.
     ///
-    /// In memory no frame is asked for; over a table one where it brings the front to another block,
-    /// else none, and at most one where its list is not known or the step fails. A source that has
-    /// ended asks for none.
+    /// In memory no frame is asked for; over a table one where it brings the front to another
+    /// block, else none, and at most one where its list is not known or the step fails. A source
+    /// that has ended asks for none.
     ///
     /// # Errors
     ///
@@ -124,9 +124,9 @@ pub trait Movable<T: Keyed> {
 
     /// Moves the back after the last item of the whole list whose user key is at most `key`.
     ///
-    /// In memory no frame is asked for; over a table that has a block one, and the one before it too
-    /// where the block at which the search stops has no such key. At most two are asked for where its
-    /// list is not known or the search fails.
+    /// In memory no frame is asked for; over a table that has a block one, and the one before it
+    /// too where the block at which the search stops has no such key. At most two are asked for
+    /// where its list is not known or the search fails.
     ///
     /// # Errors
     ///
@@ -157,7 +157,8 @@ fn is_before<T: Ranked>(x: &T, y: &T) -> bool
 // Whether an item, if there is one, goes before the one that is the first so far.
 #[inline(always)]
 fn precedes<T: Ranked>(x: Option<&T>, first: Option<&T>) -> bool
-    ensures { result ≡ goes_before T.cmp (option_map (λ r. r.now) x.entry) (option_map (λ r. r.now) first.entry) }
+    ensures { result ≡ goes_before T.cmp (option_map (λ r. r.now) x.entry) (option_map (λ r. r.now)
+        first.entry) }
 {
     match (x, first) {
         (Some(x), Some(first)) => is_before(x, first),
@@ -169,7 +170,8 @@ fn precedes<T: Ranked>(x: Option<&T>, first: Option<&T>) -> bool
 // Whether an item, if there is one, goes after the one that is the last so far.
 #[inline(always)]
 fn follows<T: Ranked>(x: Option<&T>, last: Option<&T>) -> bool
-    ensures { result ≡ goes_after T.cmp (option_map (λ r. r.now) x.entry) (option_map (λ r. r.now) last.entry) }
+    ensures { result ≡ goes_after T.cmp (option_map (λ r. r.now) x.entry) (option_map (λ r. r.now)
+        last.entry) }
 {
     match (x, last) {
         (Some(x), Some(last)) => !is_before(x, last),
@@ -296,13 +298,13 @@ fn seek_upper_all<T: Keyed, I: Movable<T>>(
 
 /// The ordered merge of sources that are moved: of equal versions, those of the earlier source come
 /// first. It is taken from both ends, and each end may be moved to a key, also over what was taken.
-/// Where the ends cross nothing is left, until one is moved again. An error ends the merge: each later
-/// step and search returns it again.
+/// Where the ends cross nothing is left, until one is moved again. An error ends the merge: each
+/// later step and search returns it again.
 ///
 /// Clauses see the merged list and how many of its items are before the front and before the back,
-/// where those of all sources are known, the errors that reading these may give, the error that ended
-/// the merge, if one did, and how many frames its sources asked for. A step compares one item of each
-/// source, and takes no memory beside what its source takes.
+/// where those of all sources are known, the errors that reading these may give, the error that
+/// ended the merge, if one did, and how many frames its sources asked for. A step compares one item
+/// of each source, and takes no memory beside what its source takes.
 #[derive(Drop)]
 pub struct MovableMerge<T: Keyed, I: Movable<T>> {
     sources: Vec<I>,
@@ -423,8 +425,8 @@ impl<T: Keyed, I: Movable<T>> MovableMerge<T, I> {
         }
     }
 
-    /// Moves the front before the first item of the whole list whose user key is at least `key`, also
-    /// over what was taken. The back stays. Asks for at most one frame of each table.
+    /// Moves the front before the first item of the whole list whose user key is at least `key`,
+    /// also over what was taken. The back stays. Asks for at most one frame of each table.
     ///
     /// # Errors
     ///
@@ -445,8 +447,8 @@ impl<T: Keyed, I: Movable<T>> MovableMerge<T, I> {
         }
     }
 
-    /// Moves the back after the last item of the whole list whose user key is at most `key`, also over
-    /// what was taken. The front stays. Asks for at most two frames of each table.
+    /// Moves the back after the last item of the whole list whose user key is at most `key`, also
+    /// over what was taken. The front stays. Asks for at most two frames of each table.
     ///
     /// # Errors
     ///

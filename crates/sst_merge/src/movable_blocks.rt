@@ -2,7 +2,8 @@
 ghost use Rattle.std.specs.Prelude.{◌≡◌, ◌+◌, ◌<◌, ◌≤◌, count_by, drop, length, slice_get};
 ghost use Rattle.std.specs.Prelude.{false, take, true, ℕ};
 ghost use Rattle.sst_merge.specs.Movable.{is_sought, item_before};
-ghost use Rattle.sst_merge.specs.MovableBlocks.{AreEntryBlocks, HoldsBack, HoldsFront, TakesFirstOf};
+ghost use Rattle.sst_merge.specs.MovableBlocks.{AreEntryBlocks, HoldsBack, HoldsFront};
+ghost use Rattle.sst_merge.specs.MovableBlocks.{TakesFirstOf};
 ghost use Rattle.sst_merge.specs.MovableBlocks.{TakesLastOf, back_place, entries_before, entry_key};
 ghost use Rattle.sst_merge.specs.MovableBlocks.{block_lists, front_place, is_block_sought};
 ghost use Rattle.sst_merge.specs.Moved.{in_memory};
@@ -134,7 +135,8 @@ fn blocks_passed<H: BlockHash>(blocks: &[DataBlockRef<'_, H>], key: &[u8], at_mo
     lo
 }
 
-// Opens the block of the first entry whose user key is at least a key, at that entry, if there is one.
+// Opens the block of the first entry whose user key is at least a key, at that entry, if there is
+// one.
 fn seek_front<'a, H: BlockHash>(blocks: &[DataBlockRef<'a, H>], key: &[u8]) -> Option<Open<'a>>
     requires { AreEntryBlocks (block_lists blocks.now) }
     ensures holds { HoldsFront (block_lists blocks.now) result }
@@ -148,21 +150,23 @@ fn seek_front<'a, H: BlockHash>(blocks: &[DataBlockRef<'a, H>], key: &[u8]) -> O
     hold_from::<H>(index, &blocks[index], key)
 }
 
-// Opens the block at an index at the last of its entries whose user keys are at most a key, if there
-// is one.
+// Opens the block at an index at the last of its entries whose user keys are at most a key, if
+// there is one.
 fn hold_up_to<'a, H: BlockHash>(
     index: usize,
     block: &DataBlockRef<'a, H>,
     key: &[u8],
 ) -> Option<Open<'a>>
-    ensures { (n : ℕ) → n ≡ count_by (is_sought entry_key key.now true) block.now.items → TakesLastOf index (take n block.now.items) result }
+    ensures { (n : ℕ) → n ≡ count_by (is_sought entry_key key.now true) block.now.items →
+        TakesLastOf index (take n block.now.items) result }
 {
     let mut iter = block.iter();
     iter.seek_upper(key);
     hold_last(index, EntryViews::new(block, iter))
 }
 
-// Opens the block of the last entry whose user key is at most a key, at that entry, if there is one.
+// Opens the block of the last entry whose user key is at most a key, at that entry, if there is
+// one.
 fn seek_back<'a, H: BlockHash>(blocks: &[DataBlockRef<'a, H>], key: &[u8]) -> Option<Open<'a>>
     requires { AreEntryBlocks (block_lists blocks.now) }
     ensures holds { HoldsBack (block_lists blocks.now) result }
@@ -188,7 +192,8 @@ fn go_forth<'a, H: BlockHash>(
     requires held { HoldsFront (block_lists blocks.now) front.old }
     ensures holds { HoldsFront (block_lists blocks.now) front.new }
     ensures item { result
-        ≡ slice_get (joined (block_lists blocks.now)) (front_place (block_lists blocks.now) front.old) }
+        ≡ slice_get (joined (block_lists blocks.now)) (front_place (block_lists blocks.now)
+        front.old) }
     ensures place { front_place (block_lists blocks.now) front.new
         ≡ front_place (block_lists blocks.now) front.old + found_item result }
 {
@@ -220,7 +225,8 @@ fn go_back<'a, H: BlockHash>(
     requires held { HoldsBack (block_lists blocks.now) back.old }
     ensures holds { HoldsBack (block_lists blocks.now) back.new }
     ensures item { result
-        ≡ item_before (joined (block_lists blocks.now)) (back_place (block_lists blocks.now) back.old) }
+        ≡ item_before (joined (block_lists blocks.now)) (back_place (block_lists blocks.now)
+        back.old) }
     ensures place { back_place (block_lists blocks.now) back.new + found_item result
         ≡ back_place (block_lists blocks.now) back.old }
 {
@@ -243,8 +249,8 @@ fn go_back<'a, H: BlockHash>(
 }
 
 /// An ordered list of entries in data blocks over borrowed bytes, whose ends are moved over it. It
-/// gives views of the entries; at most two blocks are open, one for each end. Never fails. Clauses see
-/// the list and the places of the ends.
+/// gives views of the entries; at most two blocks are open, one for each end. Never fails. Clauses
+/// see the list and the places of the ends.
 #[derive(Drop)]
 pub struct MovableBlocks<'a, H: BlockHash> {
     blocks: &'a [DataBlockRef<'a, H>],

@@ -11,8 +11,8 @@ use std::alloc::Global;
 use std::marker::Model;
 use std::mem;
 
-// Whether a search for a key passes an entry: its user key sorts before the key, or also where it is
-// the key.
+// Whether a search for a key passes an entry: its user key sorts before the key, or also where it
+// is the key.
 pub(crate) fn passes(entry: &EntryView<'_>, key: &[u8], at_most: bool) -> bool
     ensures { result ≡ is_sought (λ e. e.key.user_key) key.now at_most entry.now }
 {
@@ -64,8 +64,9 @@ fn entry_before<T: AsEntry>(items: &[T], index: usize) -> Option<EntryView<'_>>
     entry_at(items, index - 1)
 }
 
-/// An ordered list of entries in memory, whose ends are moved over it: what an engine has not written
-/// yet. It gives views of the entries. Never fails. Clauses see the list and the places of the ends.
+/// An ordered list of entries in memory, whose ends are moved over it: what an engine has not
+/// written yet. It gives views of the entries. Never fails. Clauses see the list and the places of
+/// the ends.
 #[derive(Drop)]
 pub struct MovableList<'a, T: AsEntry> {
     items: &'a [T],

@@ -1,5 +1,6 @@
 //! Tables as sources that are moved.
-ghost use Rattle.std.specs.Prelude.{◌≡◌, ◌+◌, ◌<◌, ◌≤◌, ◌^◌, length, slice_get, IfErr, IfOk, IfSome};
+ghost use Rattle.std.specs.Prelude.{◌≡◌, ◌+◌, ◌<◌, ◌≤◌, ◌^◌, length, slice_get, IfErr, IfOk};
+ghost use Rattle.std.specs.Prelude.{IfSome};
 ghost use Rattle.std.specs.Prelude.{◌*◌, IsOkUnless, None, OnOk, Some, false, min, true};
 ghost use Rattle.std.specs.List.{count_by};
 ghost use Rattle.std.specs.Option.{option_map};
@@ -181,7 +182,8 @@ fn blocks_passed<H: BlockHash, S: FrameSource>(
         .position(&bound_of(key, at_most), &mut Steps::new())
 }
 
-// Opens the block of the first entry whose user key is at least a key, at that entry, if there is one.
+// Opens the block of the first entry whose user key is at least a key, at that entry, if there is
+// one.
 fn seek_front<H: BlockHash, S: FrameSource>(
     alloc: Global,
     table: &mut Table<H, S>,
@@ -206,7 +208,8 @@ fn seek_front<H: BlockHash, S: FrameSource>(
     hold_first(alloc, index, left)
 }
 
-// Opens the block of the last entry whose user key is at most a key, at that entry, if there is one.
+// Opens the block of the last entry whose user key is at most a key, at that entry, if there is
+// one.
 fn seek_back<H: BlockHash, S: FrameSource>(
     alloc: Global,
     table: &mut Table<H, S>,
@@ -293,14 +296,14 @@ fn go_back<H: BlockHash, S: FrameSource>(
     Ok(held_of(mem::replace(back, last)))
 }
 
-/// A table whose ends are moved over its entries: each end holds an entry of a block that it has open.
-/// A block is read, verified and checked when an end reaches it; at most two are held, one for each
-/// end. An error ends it: each later step and search returns it again.
+/// A table whose ends are moved over its entries: each end holds an entry of a block that it has
+/// open. A block is read, verified and checked when an end reaches it; at most two are held, one
+/// for each end. An error ends it: each later step and search returns it again.
 ///
-/// Clauses see the list of its entries with the places of the ends, where the table's bytes are known,
-/// each of its blocks is read, and these are in order and end as the index says, as those of a sound
-/// run do; the errors that reading the blocks may give, and the error that ended it, if one did; how
-/// many frames its source was asked for, and the places at which its blocks begin.
+/// Clauses see the list of its entries with the places of the ends, where the table's bytes are
+/// known, each of its blocks is read, and these are in order and end as the index says, as those of
+/// a sound run do; the errors that reading the blocks may give, and the error that ended it, if one
+/// did; how many frames its source was asked for, and the places at which its blocks begin.
 #[derive(Drop)]
 pub struct MovableTable<H: BlockHash, S: FrameSource> {
     table: Table<H, S>,
@@ -353,13 +356,13 @@ fn open_ends<H: BlockHash, S: FrameSource>(
 }
 
 impl<H: BlockHash, S: FrameSource + Drop> MovableTable<H, S> {
-    /// Opens the first and the last block of a table. The ends are those of its list. Two frames are
-    /// asked for, also where it has one block, and none where it has no block.
+    /// Opens the first and the last block of a table. The ends are those of its list. Two frames
+    /// are asked for, also where it has one block, and none where it has no block.
     ///
     /// # Errors
     ///
-    /// Those of [`Table::block_at`] for these blocks, and `Error::Memory` if an allocation fails. The
-    /// table is then dropped.
+    /// Those of [`Table::block_at`] for these blocks, and `Error::Memory` if an allocation fails.
+    /// The table is then dropped.
     pub fn new(alloc: Global, table: Table<H, S>) -> Result<MovableTable<H, S>>
         ensures list { IfOk result (λ t. t.window ≡ option_map (λ blocks. whole (joined blocks))
             (table_blocks (hashes H.hash64 H.hash128) (S.bytes table.source) table.index)) }

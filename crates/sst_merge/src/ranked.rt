@@ -41,8 +41,8 @@ pub trait Ranked: Sized {
         → (is_lt (cmp y x) ≡ false) × (is_lt (cmp x y) ≡ true) };
 }
 
-/// Entries are ordered by user key rising, then by sequence number falling. The front of an entry is
-/// that of its key: its first 16 bytes as a big-endian number.
+/// Entries are ordered by user key rising, then by sequence number falling. The front of an entry
+/// is that of its key: its first 16 bytes as a big-endian number.
 impl Ranked for InternalValue {
     ghost cmp = { entry_cmp };
 

@@ -1,5 +1,6 @@
 //! Point reads over several tables.
-ghost use Rattle.std.specs.Prelude.{◌≡◌, ◌⊎◌, ℕ, List, Option, Some, map, take, drop, IfErr, IfOk, IfSome};
+ghost use Rattle.std.specs.Prelude.{◌≡◌, ◌⊎◌, ℕ, List, Option, Some, map, take, drop, IfErr, IfOk};
+ghost use Rattle.std.specs.Prelude.{IfSome};
 ghost use Rattle.sst_merge.specs.Counts.{OneFails, most_of};
 ghost use Rattle.sst_merge.specs.Levels.{AreLevels, asked};
 ghost use Rattle.sst_merge.specs.Merge.{entry_cmp, lesser, merged};
@@ -100,10 +101,10 @@ pub fn read_tables<R: Reader>(
     Ok(best)
 }
 
-/// Returns the first entry with this key whose sequence number is strictly below `seqno`, of readers
-/// that are levels: of no key has a reader a version newer than one of a reader before it, as newer
-/// tables of a store that come first. So the first reader that has such an entry decides, and none
-/// behind it is asked. What is examined is added to `steps`.
+/// Returns the first entry with this key whose sequence number is strictly below `seqno`, of
+/// readers that are levels: of no key has a reader a version newer than one of a reader before it,
+/// as newer tables of a store that come first. So the first reader that has such an entry decides,
+/// and none behind it is asked. What is examined is added to `steps`.
 ///
 /// # Errors
 ///

@@ -9,9 +9,9 @@ use std::alloc::Global;
 use std::marker::{Model, PhantomData};
 
 /// Of each user key the newest version with a sequence number strictly below the snapshot's, unless
-/// it is a tombstone. Each user key is copied once, which takes memory above 40 bytes. An error ends
-/// the view: each later step returns it again. Clauses see the versions left, where those of the
-/// source are known, and the error that ended the view, if one did.
+/// it is a tombstone. Each user key is copied once, which takes memory above 40 bytes. An error
+/// ends the view: each later step returns it again. Clauses see the versions left, where those of
+/// the source are known, and the error that ended the view, if one did.
 #[derive(Drop)]
 pub struct Snapshot<T: AsEntry, I: Source<T>> {
     source: I,
@@ -56,8 +56,8 @@ impl<T: AsEntry, I: Source<T>> Snapshot<T, I> {
     }
 }
 
-// Takes versions from a source up to the first that a snapshot sees, and notes the key of the newest
-// one below its sequence number.
+// Takes versions from a source up to the first that a snapshot sees, and notes the key of the
+// newest one below its sequence number.
 #[inline(always)]
 fn next_seen<T: AsEntry + Drop, I: Source<T>>(
     alloc: Global,

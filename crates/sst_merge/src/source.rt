@@ -34,7 +34,8 @@ pub trait Source<T> {
         ensures no_more { OnOk result (MeetsNoMore (left self.old) (left self.new)) };
 }
 
-/// Keeps the error of a step of a source, if it is one: it ends the source. No step before it failed.
+/// Keeps the error of a step of a source, if it is one: it ends the source. No step before it
+/// failed.
 #[inline(always)]
 pub fn keep_error<T>(ended: &mut Option<Error>, step: &Result<T>)
     requires { ended.old ≡ None }

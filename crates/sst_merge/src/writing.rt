@@ -15,12 +15,12 @@ use crate::source::Source;
 use sstable_blocks::{AsEntry, BlockHash, Error, Output, Result, RunConfig, RunHandles, RunWriter};
 use std::alloc::Global;
 
-/// How large blocks and tables become, in bytes of entries as they are encoded: of a key that is not
-/// the head of its restart interval only those count that the head's key has not, and pointers,
+/// How large blocks and tables become, in bytes of entries as they are encoded: of a key that is
+/// not the head of its restart interval only those count that the head's key has not, and pointers,
 /// buckets, frames, index and filter are not counted. A block ends with the entry with which it
-/// reaches its size, and a table with the first block with which it reaches its size and after which
-/// another user key comes. Only the last table of a source and its last block may be smaller. So no key
-/// has versions in two tables, and a table may be larger by all versions of one.
+/// reaches its size, and a table with the first block with which it reaches its size and after
+/// which another user key comes. Only the last table of a source and its last block may be smaller.
+/// So no key has versions in two tables, and a table may be larger by all versions of one.
 #[derive(Clone, Copy, Debug, PartialEq, Eq)]
 pub struct Sizes {
     /// The size of a block.
@@ -150,9 +150,9 @@ fn next_table<H: BlockHash, T: Ranked + AsEntry + Drop, I: Source<T>, W: Output 
     Ok((Some(handles), writer))
 }
 
-/// Writes the next table of a source: entries in blocks, up to a size. Returns its handles, or `None`
-/// where nothing is left, and the writer, which is as it was then. Memory is taken for one block,
-/// and what a `RunWriter` keeps.
+/// Writes the next table of a source: entries in blocks, up to a size. Returns its handles, or
+/// `None` where nothing is left, and the writer, which is as it was then. Memory is taken for one
+/// block, and what a `RunWriter` keeps.
 ///
 /// # Errors
 ///

@@ -26,7 +26,8 @@ pub enum AnyScan<'k, H: BlockHash, S: FrameSource> {
 }
 
 impl<'k, H: BlockHash, S: FrameSource> AnyScan<'k, H, S> {
-    /// Takes the first entry that is left, as [`Scan::next_entry`] or [`PartedScan::next_entry`] does.
+    /// Takes the first entry that is left, as [`Scan::next_entry`] or [`PartedScan::next_entry`]
+    /// does.
     ///
     /// # Errors
     ///

@@ -1,6 +1,8 @@
 //! A cache of data blocks, which tables share.
-ghost use Rattle.std.specs.Prelude.{◌≡◌, ◌+◌, ◌-◌, ◌^◌, ◌<◌, ◌≤◌, ◌==◌, ◌↔◌, ◌∷◌, ◌++◌, [], ℕ, None, IfOk, IfSome};
-ghost use Rattle.std.specs.Prelude.{IfNone, IsNone, IsOkUnless, false, is_some, length, option_copied, true};
+ghost use Rattle.std.specs.Prelude.{◌≡◌, ◌+◌, ◌-◌, ◌^◌, ◌<◌, ◌≤◌, ◌==◌, ◌↔◌, ◌∷◌, ◌++◌, [], ℕ};
+ghost use Rattle.std.specs.Prelude.{None, IfOk, IfSome};
+ghost use Rattle.std.specs.Prelude.{IfNone, IsNone, IsOkUnless, false, is_some, length};
+ghost use Rattle.std.specs.Prelude.{option_copied, true};
 ghost use Rattle.lru.specs.LruCache.{lru_cache};
 ghost use Rattle.sst_parts.specs.Caches.{IsKept, Keeps, empty_cache, fitting, kept_at, kept_bytes};
 ghost use Rattle.sst_parts.specs.Caches.{looked_up};

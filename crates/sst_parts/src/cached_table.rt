@@ -2,7 +2,8 @@
 ghost use Rattle.std.specs.Prelude.{◌≡◌, ◌*◌, ◌+◌, ◌-◌, ◌<◌, ◌^◌, ◌↔◌, None, Some, IfOk, IfSome};
 ghost use Rattle.std.specs.Prelude.{◌++◌, ◌∷◌, [], IfErr, IsErr, IsOkUnless, IsSome, OnErr, length};
 ghost use Rattle.std.specs.Prelude.{slice_get};
-ghost use Rattle.sst_parts.specs.Caches.{IsAdded, IsReadOf, KeepsRead, LeavesCache, ReadsBy, ReadsPlace};
+ghost use Rattle.sst_parts.specs.Caches.{IsAdded, IsReadOf, KeepsRead, LeavesCache, ReadsBy};
+ghost use Rattle.sst_parts.specs.Caches.{ReadsPlace};
 ghost use Rattle.sst_parts.specs.Caches.{cached_frames, cached_most, frames_for, kept_at};
 ghost use Rattle.sst_parts.specs.ManyReads.{IsOpened, located, place_of};
 ghost use Rattle.sstable_blocks.specs.Prelude.{CountsBetween};

@@ -1,7 +1,9 @@
 //! The parts of a parted table that are closed while it is written.
-ghost use Rattle.std.specs.Prelude.{◌≡◌, ◌⊎◌, ◌+◌, ◌++◌, ◌∷◌, [], ◌≤◌, ◌<◌, ◌^◌, IfErr, IfOk, IsErrOf};
+ghost use Rattle.std.specs.Prelude.{◌≡◌, ◌⊎◌, ◌+◌, ◌++◌, ◌∷◌, [], ◌≤◌, ◌<◌, ◌^◌, IfErr, IfOk};
+ghost use Rattle.std.specs.Prelude.{IsErrOf};
 ghost use Rattle.std.specs.Prelude.{IfSome, IsNone, IsOkUnless, None, Some, length, map};
-ghost use Rattle.sst_parts.specs.PartWriting.{AppendsPart, AppendsParted, AppendsTop, Closes, IsCurrent};
+ghost use Rattle.sst_parts.specs.PartWriting.{AppendsPart, AppendsParted, AppendsTop, Closes};
+ghost use Rattle.sst_parts.specs.PartWriting.{IsCurrent};
 ghost use Rattle.sst_parts.specs.PartWriting.{IsLastOf, PartFileFits, TopFits};
 ghost use Rattle.sstable_blocks.specs.Blocks.{joined};
 ghost use Rattle.sstable_blocks.specs.Footer.{run_end};
@@ -123,8 +125,8 @@ fn top_handle(payload_len: usize, offset: u64) -> Option<BlockHandle>
 
 /// What is kept of the parts closed: a handle of each. Calls that write take the writer.
 ///
-/// Clauses see the configuration, the blocks of the parts, their handles, the offset after them, what
-/// the writer held when this was made, and after the last part.
+/// Clauses see the configuration, the blocks of the parts, their handles, the offset after them,
+/// what the writer held when this was made, and after the last part.
 #[derive(Drop)]
 pub(crate) struct ClosedParts<H: BlockHash> {
     hash: PhantomData<H>,
@@ -258,7 +260,8 @@ impl<H: BlockHash> ClosedParts<H> {
         Ok((closed, writer))
     }
 
-    /// Ends the table: writes the index of the parts and the footer. Returns the handle of the index.
+    /// Ends the table: writes the index of the parts and the footer. Returns the handle of the
+    /// index.
     ///
     /// # Errors
     ///

@@ -1,5 +1,5 @@
-//! Laws of parted tables. Each function does nothing, and its contract is one law: a caller has it in
-//! its proof by calling the function.
+//! Laws of parted tables. Each function does nothing, and its contract is one law: a caller has it
+//! in its proof by calling the function.
 ghost use Rattle.std.specs.Prelude.{◌≡◌, ◌++◌, ◌<◌, ◌^◌, ℕ, List, None, Ok, Option, map};
 ghost use Rattle.std.specs.Prelude.{slice_get};
 ghost use Rattle.std.specs.List.{AllZip};
@@ -43,8 +43,8 @@ pub fn first_match_is_in_one_part<T: BlockItem, E: BlockItem>()
     first_match_is_in_one_block::<T, E>();
 }
 
-/// A checked read of a parted table by the handles of its parts gives the first match of the entries
-/// of all parts.
+/// A checked read of a parted table by the handles of its parts gives the first match of the
+/// entries of all parts.
 pub fn parted_is_read()
     ensures { (c : Hashes) (parts : List (List (List Entry))) (bytes : List ℕ) (top : HandleParts)
         (tops : List Handle) (needle : List ℕ) (seqno : ℕ)
@@ -124,8 +124,8 @@ pub fn parted_is_found()
     first_match_is_in_one_part::<InternalValue, KeyedBlockHandle>();
 }
 
-/// The layout of a parted table, as [`PartWriter`](crate::PartWriter) writes it, is the file of a parted
-/// table of these parts.
+/// The layout of a parted table, as [`PartWriter`](crate::PartWriter) writes it, is the file of a
+/// parted table of these parts.
 pub fn parted_layout_is_parted()
     ensures { (f : Form) (parts : List (List (List Entry))) (bytes : List ℕ) (top : HandleParts)
         → IsPartedLayout f parts bytes top
@@ -134,8 +134,8 @@ pub fn parted_layout_is_parted()
     layout_is_sound();
 }
 
-/// The file of a parted table is opened by its footer: the index of its parts is read, and a read by it
-/// is that of [`parted_is_read`].
+/// The file of a parted table is opened by its footer: the index of its parts is read, and a read
+/// by it is that of [`parted_is_read`].
 pub fn parted_file_opens()
     ensures { (c : Hashes) (parts : List (List (List Entry))) (bytes : List ℕ) (top : HandleParts)
         → ((xs : List ℕ) → c.hash128 xs < 2 ^ 128) → IsPartedFile c parts bytes top
@@ -146,8 +146,8 @@ pub fn parted_file_opens()
     index_block_is_read();
 }
 
-/// Where the indexes of the blocks of needles do not fall, [`get_many`](crate::many::get_many) asks for
-/// at most as many frames as there are different blocks among them.
+/// Where the indexes of the blocks of needles do not fall, [`get_many`](crate::many::get_many) asks
+/// for at most as many frames as there are different blocks among them.
 pub fn rising_blocks_are_read_once()
     ensures { (places : List (Option ℕ)) → IsRising (indexes places)
         → many_frames None places ≡ different (indexes places) }

@@ -1,8 +1,10 @@
 //! Reads of many keys of a table, each block read once.
-ghost use Rattle.std.specs.Prelude.{◌≡◌, ◌≢◌, ◌<◌, None, Ok, Some, IfErr, IfOk, IfSome, IsOkUnless, OnErr, OnOk};
+ghost use Rattle.std.specs.Prelude.{◌≡◌, ◌≢◌, ◌<◌, None, Ok, Some, IfErr, IfOk, IfSome, IsOkUnless};
+ghost use Rattle.std.specs.Prelude.{OnErr, OnOk};
 ghost use Rattle.std.specs.Prelude.{false, length, map, true};
 ghost use Rattle.sst_parts.specs.ManyReads.{IsLastBlock, IsOpenAt, IsOpened, block_frames};
-ghost use Rattle.sst_parts.specs.ManyReads.{index_after, last_index, located, many_frames, place_of};
+ghost use Rattle.sst_parts.specs.ManyReads.{index_after, last_index, located, many_frames};
+ghost use Rattle.sst_parts.specs.ManyReads.{place_of};
 ghost use Rattle.sst_parts.specs.ManyReads.{read_each};
 ghost use Rattle.sstable_blocks.specs.Opened.{range_of};
 ghost use Rattle.sstable_blocks.specs.Prelude.{CountsBetween, entries, first_match};
@@ -160,9 +162,9 @@ fn read_last<H: BlockHash>(
     }
 }
 
-/// Returns for each needle what [`Table::get`] returns for it, in the order of the needles. A block is
-/// read only where it is not the one that was read last: where the indexes of the needles' blocks do
-/// not fall, each block is read once
+/// Returns for each needle what [`Table::get`] returns for it, in the order of the needles. A block
+/// is read only where it is not the one that was read last: where the indexes of the needles'
+/// blocks do not fall, each block is read once
 /// ([`rising_blocks_are_read_once`](crate::laws::rising_blocks_are_read_once)).
 ///
 /// The filter and the index are those that the table keeps, as they were read when it was opened.

@@ -273,8 +273,8 @@ fn places_from<S: FrameSource>(
     decode_footer(footer.as_slice())
 }
 
-// The first match in the part in a range: of the part the footer, the filter, the index and one block
-// are read.
+// The first match in the part in a range: of the part the footer, the filter, the index and one
+// block are read.
 pub(crate) fn read_in_part<H: BlockHash, S: FrameSource>(
     alloc: Global,
     source: &mut S,

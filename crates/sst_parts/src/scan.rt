@@ -204,8 +204,8 @@ fn step<H: BlockHash, S: FrameSource>(
 ///
 /// A part is read whole when it is reached, by one frame, and each of its blocks is verified and
 /// checked when that is reached. Parts that the index of the parts shows to be outside the range
-/// are not read. At most two parts are held, one for each end. An error ends the scan: each later step
-/// returns it again.
+/// are not read. At most two parts are held, one for each end. An error ends the scan: each later
+/// step returns it again.
 ///
 /// Clauses see the table, the range, what is left to read of the part opened from the front, the
 /// handles of the parts that were not reached, what is left to read of the part opened from the
@@ -278,8 +278,9 @@ impl<'k, H: BlockHash, S: FrameSource> PartedScan<'k, H, S> {
     ///
     /// For the parts that are reached, in order: those of the source for the bytes of the part,
     /// `Error::Truncated` if these are fewer than 24, those of [`Table::open`] for its filter and
-    /// its index, and those of [`Table::block_at`] for its blocks. `Error::Io` only where the source
-    /// failed. `Error::Memory` if an allocation fails. After an error each step returns that error.
+    /// its index, and those of [`Table::block_at`] for its blocks. `Error::Io` only where the
+    /// source failed. `Error::Memory` if an allocation fails. After an error each step returns that
+    /// error.
     ///
     /// [`Table::open`]: sstable_blocks::run::Table::open
     /// [`Table::block_at`]: sstable_blocks::run::Table::block_at

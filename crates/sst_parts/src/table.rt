@@ -1,5 +1,6 @@
 //! Parted tables in a source, of which the index of the parts is kept.
-ghost use Rattle.std.specs.Prelude.{◌≡◌, ◌+◌, ◌<◌, ◌^◌, Ok, IfOk, IfSome, MatchResult, Option, true};
+ghost use Rattle.std.specs.Prelude.{◌≡◌, ◌+◌, ◌<◌, ◌^◌, Ok, IfOk, IfSome, MatchResult, Option};
+ghost use Rattle.std.specs.Prelude.{true};
 ghost use Rattle.std.specs.Prelude.{OnOk, length};
 ghost use Rattle.std.specs.Option.{option_map};
 ghost use Rattle.sst_parts.specs.PartChecks.{ForParted, IsPartedSummary, check_parted};
@@ -97,8 +98,8 @@ fn read_by_tops<H: BlockHash, S: FrameSource>(
 /// and is kept, with the table of its heads; of the parts nothing is kept.
 ///
 /// Clauses see the source, the handle of the index of the parts, the handles of the parts, and the
-/// restart interval of that index. The handles kept are always those of the source's bytes, if these
-/// are known.
+/// restart interval of that index. The handles kept are always those of the source's bytes, if
+/// these are known.
 #[derive(Drop)]
 pub struct PartedTable<H: BlockHash, S: FrameSource> {
     source: S,
@@ -167,16 +168,16 @@ impl<H: BlockHash, S: FrameSource> PartedTable<H, S> {
     /// and, where that allows the key, its index and one block. Each frame is verified and checked.
     ///
     /// What is examined is added to `steps`: at least a head of the index of the parts, and at most
-    /// the heads and handles of a search in it, and what [`sstable_blocks::run::read_entry`] examines
-    /// in the part.
+    /// the heads and handles of a search in it, and what [`sstable_blocks::run::read_entry`]
+    /// examines in the part.
     ///
     /// # Errors
     ///
     /// The first one met: those of the source for the part's footer, and `Error::Truncated` if the
     /// part has fewer than 24 bytes; then those of
-    /// [`read_entry_checked`](sstable_blocks::run::read_entry_checked) for the bytes of the part, where a range
-    /// that is not inside the part is `Error::BadHandle`. `Error::Io` only where the source failed.
-    /// `Error::Memory` if an allocation fails.
+    /// [`read_entry_checked`](sstable_blocks::run::read_entry_checked) for the bytes of the part,
+    /// where a range that is not inside the part is `Error::BadHandle`. `Error::Io` only where the
+    /// source failed. `Error::Memory` if an allocation fails.
     pub fn get(
         &mut self,
         alloc: Global,
@@ -202,8 +203,8 @@ impl<H: BlockHash, S: FrameSource> PartedTable<H, S> {
         read_by_tops::<H, S>(alloc, &mut self.source, &self.index, needle, seqno, steps)
     }
 
-    /// Reads the bytes of the part of the handle at an index of the index of the parts, by one frame:
-    /// of a parted table they are a table file. Nothing of them is checked.
+    /// Reads the bytes of the part of the handle at an index of the index of the parts, by one
+    /// frame: of a parted table they are a table file. Nothing of them is checked.
     ///
     /// # Errors
     ///
@@ -237,12 +238,12 @@ impl<H: BlockHash, S: FrameSource> PartedTable<H, S> {
     ///
     /// # Errors
     ///
-    /// The first one met, part by part: `Error::BadHandle` if the part does not begin where the part
-    /// before ends, those of the source for its bytes, `Error::Truncated` if these are fewer than
-    /// 24, those of [`sstable_blocks::run::check`] for the run in them, `Error::OutOfOrder` if its
-    /// first entry sorts before the last one of the part before, and `Error::BadHandle` if its last
-    /// entry is not that of its handle. `Error::Io` only where the source failed. `Error::Memory` if
-    /// an allocation fails.
+    /// The first one met, part by part: `Error::BadHandle` if the part does not begin where the
+    /// part before ends, those of the source for its bytes, `Error::Truncated` if these are fewer
+    /// than 24, those of [`sstable_blocks::run::check`] for the run in them, `Error::OutOfOrder` if
+    /// its first entry sorts before the last one of the part before, and `Error::BadHandle` if its
+    /// last entry is not that of its handle. `Error::Io` only where the source failed.
+    /// `Error::Memory` if an allocation fails.
     pub fn verify(&mut self, alloc: Global) -> Result<PartedSummary>
         ensures kept { self.new ≡ record self.old { source = self.new.source } }
         ensures source { UsesSource S.bytes S.failures S.reads S.is_reliable

@@ -1,5 +1,6 @@
 //! Writing a parted table, a block at a time.
-ghost use Rattle.std.specs.Prelude.{◌≡◌, ◌↔◌, ◌-◌, ◌++◌, ◌∷◌, [], ◌≤◌, IfErr, IfOk, IsErrOf, IsTrue, ℕ};
+ghost use Rattle.std.specs.Prelude.{◌≡◌, ◌↔◌, ◌-◌, ◌++◌, ◌∷◌, [], ◌≤◌, IfErr, IfOk, IsErrOf};
+ghost use Rattle.std.specs.Prelude.{IsTrue, ℕ};
 ghost use Rattle.std.specs.Prelude.{OnErr, if◌then◌else◌};
 ghost use Rattle.std.specs.Prelude.{None, length, map, true};
 ghost use Rattle.sst_parts.specs.PartWriting.{AddsTo, AppendsParted, AppendsPartedFile, EndFits};
@@ -19,8 +20,8 @@ use std::alloc::Global;
 use std::collections::LinkedList;
 use std::marker::Model;
 
-/// Where the parts of a parted table end: a part ends as soon as it reaches one of these sizes, with
-/// the block with which it does. A size of 0 is no limit.
+/// Where the parts of a parted table end: a part ends as soon as it reaches one of these sizes,
+/// with the block with which it does. A size of 0 is no limit.
 #[derive(Clone, Copy, Debug, PartialEq, Eq)]
 pub struct PartSizes {
     /// The number of blocks of a part.
@@ -56,8 +57,8 @@ fn spent(limit: u64, left: u64) -> bool
     limit >= 1 && left == 0
 }
 
-// How many bytes are left to the part that the next block is added to, where the current one is full
-// or not.
+// How many bytes are left to the part that the next block is added to, where the current one is
+// full or not.
 fn left_before(full: bool, bytes: u64, left: u64) -> u64
     ensures { result ≡ (if full then bytes else left) }
 {
@@ -192,15 +193,15 @@ impl<H: BlockHash, W: Output> PartWriter<H, W> {
 
 impl<H: BlockHash, W: Output + Drop> PartWriter<H, W> {
     /// Writes one more block, which [`PartWriter::fits_after`] those before: to the current part,
-    /// or, where that has reached one of its sizes, to the next one, after the index, the filter and
-    /// the footer of the part that ends. A part may end between versions of one key.
+    /// or, where that has reached one of its sizes, to the next one, after the index, the filter
+    /// and the footer of the part that ends. A part may end between versions of one key.
     ///
     /// # Errors
     ///
     /// `Error::TooLong` only where a part that ends does not fit: its run as `write_run` says, its
-    /// table file below 2^32 bytes, and the end of that below 2^64; or where the block does not fit,
-    /// as [`RunWriter::add_block`] says. `Error::Memory` if an allocation fails, `Error::Io` if the
-    /// writer fails. The writer is gone then, and may hold a partial write.
+    /// table file below 2^32 bytes, and the end of that below 2^64; or where the block does not
+    /// fit, as [`RunWriter::add_block`] says. `Error::Memory` if an allocation fails, `Error::Io`
+    /// if the writer fails. The writer is gone then, and may hold a partial write.
     pub fn add_block<T: AsEntry>(self, items: &[T]) -> Result<PartWriter<H, W>>
         requires { Follows (blocks_so_far self) (map T.entry items.now) }
         ensures added { IfOk result (λ w. AddsTo self w (map T.entry items.now)) }
@@ -234,14 +235,15 @@ impl<H: BlockHash, W: Output + Drop> PartWriter<H, W> {
         })
     }
 
-    /// Ends the table: ends the last part, and writes the index of the parts and the footer. Returns
-    /// the handle of the index, and the writer, which is not flushed or synced. A block was written.
+    /// Ends the table: ends the last part, and writes the index of the parts and the footer.
+    /// Returns the handle of the index, and the writer, which is not flushed or synced. A block was
+    /// written.
     ///
     /// # Errors
     ///
-    /// `Error::TooLong` only where the last part does not fit, as [`PartWriter::add_block`] says, or
-    /// the payload of the index has more than 4294967262 bytes, or its frame ends at 2^64 or above.
-    /// `Error::Memory` if an allocation fails, `Error::Io` if the writer fails.
+    /// `Error::TooLong` only where the last part does not fit, as [`PartWriter::add_block`] says,
+    /// or the payload of the index has more than 4294967262 bytes, or its frame ends at 2^64 or
+    /// above. `Error::Memory` if an allocation fails, `Error::Io` if the writer fails.
     pub fn finish(self) -> Result<(BlockHandle, W)>
         requires { 1 ≤ length self.current }
         ensures layout { IfOk result (λ r. AppendsParted (form H.hash64 H.hash128 self.config)

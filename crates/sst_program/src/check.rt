@@ -3,13 +3,15 @@ ghost use Rattle.std.specs.Prelude.{◌≡◌, ◌≢◌, ◌⊎◌, ◌<◌, On
 ghost use Rattle.std.specs.Prelude.{IfOk, IfErr, IfSome};
 ghost use Rattle.std.specs.Prelude.{IsOkUnless, string_bytes};
 ghost use Rattle.std.specs.Io.KnownBytes.{Keeps};
-ghost use Rattle.sst_program.specs.Outcome.{checked_text_of, PrintsCounts, PrintsNothing, IsLibraryRefusal};
+ghost use Rattle.sst_program.specs.Outcome.{checked_text_of, PrintsCounts, PrintsNothing};
+ghost use Rattle.sst_program.specs.Outcome.{IsLibraryRefusal};
 ghost use Rattle.sst_program.specs.TableReads.{block_count, filter_check, run_filter_check};
 ghost use Rattle.sst_program.specs.TableReads.{entries_counted, run_counts, PrintsCountsOf};
 ghost use Rattle.sst_program.specs.TableReads.{FailsAround, IsRefusalOf};
 ghost use Rattle.sst_program.specs.TableReads.{table_counts, IsTableFault};
 ghost use Rattle.sstable_blocks.specs.Results.{Io, Memory};
-ghost use Rattle.sstable_blocks.specs.Sources.{AsksAny, AsksExactly, KeepsSource, ReadsAs, UsesSource};
+ghost use Rattle.sstable_blocks.specs.Sources.{AsksAny, AsksExactly, KeepsSource, ReadsAs};
+ghost use Rattle.sstable_blocks.specs.Sources.{UsesSource};
 ghost use Rattle.sstable_blocks.specs.Sources.{filter_frames};
 
 use crate::fault;

@@ -3,7 +3,8 @@ ghost use Rattle.std.specs.Prelude.{◌≡◌, ◌≢◌, ◌⊎◌, ◌+◌, �
 ghost use Rattle.std.specs.Prelude.{IfOk, IfErr, IfSome};
 ghost use Rattle.std.specs.Prelude.{IsOkUnless, string_bytes};
 ghost use Rattle.std.specs.Io.KnownBytes.{Keeps};
-ghost use Rattle.sst_program.specs.Outcome.{answer_text_of, PrintsAnswer, PrintsNothing, IsLibraryRefusal};
+ghost use Rattle.sst_program.specs.Outcome.{answer_text_of, PrintsAnswer, PrintsNothing};
+ghost use Rattle.sst_program.specs.Outcome.{IsLibraryRefusal};
 ghost use Rattle.sst_program.specs.TableReads.{sst_hashes, PrintsAnswerOf, FailsAround};
 ghost use Rattle.sst_program.specs.TableReads.{IsRefusalOf};
 ghost use Rattle.sst_program.specs.TableReads.{table_answer, IsTableFault};
@@ -34,7 +35,8 @@ fn find<S: FrameSource>(
     ensures source { UsesSource S.bytes S.failures S.reads S.is_reliable
         (AsksUpTo (2 + filter_frames handles.now.filter)) source.old source.new result }
     ensures exact { ReadsAs S.bytes S.failures S.is_reliable source.old source.new
-        (λ x. x) result (λ all. read_checked sst_hashes all handles.now words.now.needle words.now.seqno) }
+        (λ x. x) result (λ all. read_checked sst_hashes all handles.now words.now.needle
+        words.now.seqno) }
 {
     read_entry_checked::<Poly31, S>(alloc, source, handles, words.needle(), words.seqno())
 }

@@ -2,7 +2,8 @@
 ghost use Rattle.std.specs.Prelude.{◌≡◌, ◌↔◌, []};
 ghost use Rattle.std.specs.Prelude.{◌∷◌, ◌++◌, IfSome, IfNone};
 ghost use Rattle.std.specs.Prelude.{IfOk, IsOkUnless, Some, string_bytes};
-ghost use Rattle.sst_program.specs.Line.{entry_line_of, letter_of, byte_text_of, joined_by_spaces, Encodes};
+ghost use Rattle.sst_program.specs.Line.{entry_line_of, letter_of, byte_text_of, joined_by_spaces};
+ghost use Rattle.sst_program.specs.Line.{Encodes};
 ghost use Rattle.sst_program.specs.Line.{Lacks, type_of_letters, entry_of_parts, entry_of_line};
 ghost use Rattle.sst_program.specs.Point.{answer_line_of};
 ghost use Rattle.sstable_blocks.specs.Prelude.{Entry, plain_value};

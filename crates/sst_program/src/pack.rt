@@ -2,7 +2,8 @@
 ghost use Rattle.std.specs.Prelude.{◌≡◌, ◌≤◌, OnOk, IfOk, IfErr};
 ghost use Rattle.std.specs.Prelude.{IsErrOf, IsOkUnless, length};
 ghost use Rattle.std.specs.Prelude.{None, string_bytes};
-ghost use Rattle.sst_program.specs.Outcome.{packed_text_of, PrintsPacked, PrintsNothing, IsPackFault};
+ghost use Rattle.sst_program.specs.Outcome.{packed_text_of, PrintsPacked, PrintsNothing};
+ghost use Rattle.sst_program.specs.Outcome.{IsPackFault};
 ghost use Rattle.sst_program.specs.Table.{AppendsPacked, IsCutBy, IsFreshRun, IsWriteFault};
 ghost use Rattle.sstable_blocks.specs.Prelude.{entries, IsOrdered};
 ghost use Rattle.sstable_blocks.specs.Results.{Io};
@@ -58,8 +59,9 @@ fn add_blocks<W: Output>(
 ///
 /// # Errors
 ///
-/// `Error::Io` if the writer fails, `Error::TooLong` only where the blocks of a front of the entries
-/// make a table that does not fit (see `RunWriter`), `Error::Memory` if an allocation fails.
+/// `Error::Io` if the writer fails, `Error::TooLong` only where the blocks of a front of the
+/// entries make a table that does not fit (see `RunWriter`), `Error::Memory` if an allocation
+/// fails.
 pub fn write_table<W: SyncWrite + Drop>(
     alloc: Global,
     writer: W,

@@ -1,5 +1,5 @@
-//! Table files that `sst` writes: a new one, which then takes the place of the old one, or, where the
-//! name is no regular file's, in place.
+//! Table files that `sst` writes: a new one, which then takes the place of the old one, or, where
+//! the name is no regular file's, in place.
 ghost use Rattle.std.specs.Prelude.{◌≡◌, ◌≤◌, length, IfOk, IfErr, IsErrOf};
 ghost use Rattle.sst_program.specs.Table.{IsPacked, IsWriteFault};
 ghost use Rattle.sstable_blocks.specs.Prelude.{entries, IsOrdered};

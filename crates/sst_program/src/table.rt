@@ -1,5 +1,5 @@
-//! Table files: a run and its footer. The library's `Table` is not used: to open it reads the filter and
-//! the index always, and errors would come in another order than that of a read.
+//! Table files: a run and its footer. The library's `Table` is not used: to open it reads the
+//! filter and the index always, and errors would come in another order than that of a read.
 ghost use Rattle.std.specs.Prelude.{◌≡◌, ◌⊎◌, ◌<◌, IfErr};
 ghost use Rattle.std.specs.Prelude.{IfSome, IfOk, IsOkUnless};
 ghost use Rattle.sst_program.specs.TableReads.{index_read, block_read};

@@ -3,10 +3,13 @@ ghost use Rattle.std.specs.Prelude.{◌≡◌, ◌≤◌, ◌⊎◌, IfErr, IfOk
 ghost use Rattle.std.specs.Prelude.{IsOkUnless, map, drop, length};
 ghost use Rattle.std.specs.Vec.Iter.{into_iter_items, into_iter_len};
 ghost use Rattle.sst_program.specs.Commands.{name_of, file_of, query_of, point_of_words, ratio_of};
-ghost use Rattle.sst_program.specs.Commands.{config_of, index_interval_of, packing_of, pack_of_words};
-ghost use Rattle.sst_program.specs.Commands.{find_of, get_of_words, file_of_words, command_of_words};
+ghost use Rattle.sst_program.specs.Commands.{config_of, index_interval_of, packing_of};
+ghost use Rattle.sst_program.specs.Commands.{pack_of_words};
+ghost use Rattle.sst_program.specs.Commands.{find_of, get_of_words, file_of_words};
+ghost use Rattle.sst_program.specs.Commands.{command_of_words};
 ghost use Rattle.sst_program.specs.declared.fault.Fault.TheVariants.{Usage, Refused};
-ghost use Rattle.sst_program.specs.declared.words.Command.TheVariants.{Point, Pack, Get, Walk, Check};
+ghost use Rattle.sst_program.specs.declared.words.Command.TheVariants.{Point, Pack, Get, Walk};
+ghost use Rattle.sst_program.specs.declared.words.Command.TheVariants.{Check};
 ghost use Rattle.sst_program.specs.Text.{number_within};
 ghost use Rattle.sstable_blocks.specs.Results.{Memory};
 ghost use Rattle.sstable_blocks.specs.Run.{IsWritable};

@@ -140,8 +140,8 @@ fn counts(alloc: Global, most: u64) -> Result<(u64, u64, u64, u64)> {
     Ok((wrong, cache.hits(), cache.misses(), cache.bytes()))
 }
 
-// Of 105 reads 98 lead to a block: each of ten blocks is read once where all fit, at each read where
-// none does, and as often as the block changes where one fits.
+// Of 105 reads 98 lead to a block: each of ten blocks is read once where all fit, at each read
+// where none does, and as often as the block changes where one fits.
 #[test]
 fn cached_reads_are_reads(rt: HostRuntime) -> Tested {
     let (wrong, hits, misses, bytes) = counts(rt.alloc(), 1 << 20)?;

@@ -59,8 +59,8 @@ fn finish(writer: PartWriter<ByteSum, Vec<u8>>) -> sst_base::Result<(BlockHandle
     }
 }
 
-// A parted table of six keys, in blocks of a length and parts of these sizes, and the handle of the index
-// of its parts.
+// A parted table of six keys, in blocks of a length and parts of these sizes, and the handle of the
+// index of its parts.
 fn written_with_top(
     alloc: Global,
     len: usize,
@@ -230,8 +230,8 @@ fn place_of(entry: &InternalValue) -> Place {
     (last.unwrap_or(0), key.seqno())
 }
 
-// How many steps of a scan give no entry that is wanted at its place: from the front where a pattern
-// has a 1 for them, else from the back, as many as entries are wanted and one more.
+// How many steps of a scan give no entry that is wanted at its place: from the front where a
+// pattern has a 1 for them, else from the back, as many as entries are wanted and one more.
 fn wrong_steps<S: FrameSource>(
     alloc: Global,
     scan: &mut PartedScan<'_, ByteSum, S>,

@@ -226,8 +226,8 @@ fn open_part<H: BlockHash, S: FrameSource>(
     Ok(Table::open_file(alloc, MemorySource::new(bytes))?)
 }
 
-// Prints a line for the part at an index, and a line for each of its blocks. Returns whether all are
-// sound.
+// Prints a line for the part at an index, and a line for each of its blocks. Returns whether all
+// are sound.
 fn print_part<H: BlockHash, S: FrameSource, R, O: Write>(
     progress: &Progress<'_, R>,
     alloc: Global,
@@ -373,7 +373,8 @@ fn index_in<H: BlockHash, S: FrameSource + Drop, O: Write>(
 ///
 /// # Errors
 ///
-/// Those of the file, of its filter and its index, or of the index of its parts, and `Fault::Output`.
+/// Those of the file, of its filter and its index, or of the index of its parts, and
+/// `Fault::Output`.
 pub fn run_index<H: BlockHash, R: Files + Clock + Eprint, O: Write>(
     progress: &Progress<'_, R>,
     alloc: Global,

@@ -200,8 +200,8 @@ fn print_sound<O: Write>(checked: &Checked, output: &mut O) -> io::Result<()> {
 }
 
 /// Checks table files whole: each block, the order across blocks, end keys, the filter. Prints the
-/// numbers of blocks and entries, of a parted table that of parts too; of several files a line each, also after one that fails. Warns of
-/// bytes of a file that belong to no frame.
+/// numbers of blocks and entries, of a parted table that of parts too; of several files a line
+/// each, also after one that fails. Warns of bytes of a file that belong to no frame.
 ///
 /// # Errors
 ///

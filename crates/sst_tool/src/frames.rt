@@ -113,8 +113,8 @@ fn found_at<H: BlockHash, S: FrameSource>(
     }
 }
 
-/// Finds the frames of the data blocks of a file by their headers, from its front on, and adds their
-/// handles. Returns the number of bytes that are in no frame.
+/// Finds the frames of the data blocks of a file by their headers, from its front on, and adds
+/// their handles. Returns the number of bytes that are in no frame.
 ///
 /// # Errors
 ///

@@ -10,9 +10,9 @@ const BLOCK: u64 = 4096;
 // How many entries a restart interval has, unless keys are longer than a block.
 const INTERVAL: u8 = 16;
 
-/// The length of the longest key that a block ends with, of the tables whose index was seen. A block
-/// holds the first key of each restart interval whole, and the index its last one: where they are
-/// longer than a block, each entry would have a block of its own, and be twice in the table,
+/// The length of the longest key that a block ends with, of the tables whose index was seen. A
+/// block holds the first key of each restart interval whole, and the index its last one: where they
+/// are longer than a block, each entry would have a block of its own, and be twice in the table,
 /// whatever it shares with the others.
 #[derive(Drop)]
 pub struct LongestKey {
@@ -55,8 +55,8 @@ impl LongestKey {
         size_for(self.len.get())
     }
 
-    /// How many entries a restart interval of a new table has: 16, or 255 where a key is longer than
-    /// a block.
+    /// How many entries a restart interval of a new table has: 16, or 255 where a key is longer
+    /// than a block.
     pub fn interval(&self) -> u8
         ensures { 1 ≤ result }
     {

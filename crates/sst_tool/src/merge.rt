@@ -38,8 +38,8 @@ pub struct TableForm {
 }
 
 impl TableForm {
-    /// Takes the form from the words. With no size of a table it ends when all is written; with none
-    /// of a block and no interval they are those that are fit for the longest key.
+    /// Takes the form from the words. With no size of a table it ends when all is written; with
+    /// none of a block and no interval they are those that are fit for the longest key.
     pub fn of_words(words: &ArgMatches<'_>, longest: &LongestKey) -> TableForm
         ensures { IsWritable result.config }
     {
@@ -60,8 +60,8 @@ impl TableForm {
 // Which reads may come after a merge.
 #[derive(Drop)]
 struct Reads {
-    // The sequence numbers that are read at, beside those at or above all of them: all versions stay
-    // where there are none.
+    // The sequence numbers that are read at, beside those at or above all of them: all versions
+    // stay where there are none.
     snapshots: Vec<SeqNo>,
     // Whether no older table is below.
     is_bottom: bool,
@@ -238,11 +238,11 @@ fn merge_into<'p, H: BlockHash, N: BlockHash, R: LockFiles + Clock + Eprint>(
 }
 
 /// Merges tables, the newest first, into one, or with `--table-size` into several of this size,
-/// which are put under their names when all are whole. With `--snapshot`, which may be given several
-/// times, only versions stay that a read at one of these sequence numbers, or at or above all of them,
-/// sees, with `--latest` of each key the newest; with `--bottom` no tombstones of these that hide
-/// nothing; with `--hash` the new tables have this hash function; `--block`, `--interval` and
-/// `--bits` say how they are cut and encoded.
+/// which are put under their names when all are whole. With `--snapshot`, which may be given
+/// several times, only versions stay that a read at one of these sequence numbers, or at or above
+/// all of them, sees, with `--latest` of each key the newest; with `--bottom` no tombstones of
+/// these that hide nothing; with `--hash` the new tables have this hash function; `--block`,
+/// `--interval` and `--bits` say how they are cut and encoded.
 ///
 /// # Errors
 ///

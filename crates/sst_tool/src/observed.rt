@@ -355,8 +355,8 @@ impl<'s, H: BlockHash, S> ObservedParts<'s, H, S> {
         }
     }
 
-    // Adds the frame of the index of the parts, or the bytes of a part. A part that fails here fails
-    // the check too, unless there was no memory.
+    // Adds the frame of the index of the parts, or the bytes of a part. A part that fails here
+    // fails the check too, unless there was no memory.
     fn add(&self, alloc: Global, handle: &BlockHandle, frame: &Slice) {
         let mut seen = self.seen.get();
         if handle.offset() == self.top.offset() {

@@ -128,8 +128,8 @@ pub fn source_of<'p, R: Files + Clock + Eprint>(
     }
 }
 
-/// Opens a table file, plain or parted: reads its footer, then filter and index, or the index of its
-/// parts.
+/// Opens a table file, plain or parted: reads its footer, then filter and index, or the index of
+/// its parts.
 ///
 /// # Errors
 ///

@@ -64,8 +64,8 @@ impl<I> Ordered<I> {
     }
 }
 
-// Tests the entry that a step of a source gave, which has to follow one with the last key, and notes
-// its key.
+// Tests the entry that a step of a source gave, which has to follow one with the last key, and
+// notes its key.
 fn follow<I: InBlocks>(
     source: &I,
     direction: Direction,

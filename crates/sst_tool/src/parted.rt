@@ -24,8 +24,8 @@ fn is_top<H: BlockHash>(bytes: &[u8]) -> bool {
     }
 }
 
-/// Returns whether a table file is in parts, by the header of the frame that its footer names as the
-/// index. Where that cannot be read it is not, and a check of the file says why.
+/// Returns whether a table file is in parts, by the header of the frame that its footer names as
+/// the index. Where that cannot be read it is not, and a check of the file says why.
 pub fn is_parted<H: BlockHash, S: FrameSource>(
     alloc: Global,
     source: &mut S,
@@ -127,13 +127,13 @@ fn test_parts<H: BlockHash, S: FrameSource, R>(
     Ok(())
 }
 
-/// Tests the filters of the parts of a file, before these are checked: of each part the footer and the
-/// numbers of its filter are read.
+/// Tests the filters of the parts of a file, before these are checked: of each part the footer and
+/// the numbers of its filter are read.
 ///
 /// # Errors
 ///
-/// An error for a part whose filter claims more probes for all entries than it has bits, and more than
-/// [`FREE_PROBES`] a key.
+/// An error for a part whose filter claims more probes for all entries than it has bits, and more
+/// than [`FREE_PROBES`] a key.
 pub fn test_filters<H: BlockHash, S: FrameSource, R>(
     progress: &Progress<'_, R>,
     alloc: Global,

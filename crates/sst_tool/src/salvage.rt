@@ -234,7 +234,8 @@ fn tell_why<R: Eprint>(progress: &Progress<'_, R>, alloc: Global, file: &str, er
     let _ = eprintln!(progress.rt(); "sstool: {fault}; blocks are found by their headers");
 }
 
-// Adds the frames of the data blocks of a file by their headers, and warns of bytes that are in none.
+// Adds the frames of the data blocks of a file by their headers, and warns of bytes that are in
+// none.
 fn add_by_headers<H: BlockHash, S: SizedSource, R: Clock + Eprint>(
     progress: &Progress<'_, R>,
     alloc: Global,

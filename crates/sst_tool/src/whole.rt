@@ -21,7 +21,8 @@ const COUNT_LEN: u32 = 4;
 
 /// Returns the number of the block or the part at an offset, by the handles of an index.
 pub fn number_at(index: &IndexBlock, offset: u64) -> Option<usize>
-    ensures { IfSome result (λ i. option_map (λ h. h.offset) (slice_get index.now.items i) ≡ Some offset) }
+    ensures { IfSome result (λ i. option_map (λ h. h.offset) (slice_get index.now.items i) ≡ Some
+        offset) }
 {
     let mut number = 0usize;
     while number < index.len() {

@@ -1,5 +1,5 @@
-//! Laws of the definitions that contracts cite, those of bytes and blocks too. Each function does nothing,
-//! and its contract is one law: a caller has it in its proof by calling the function.
+//! Laws of the definitions that contracts cite, those of bytes and blocks too. Each function does
+//! nothing, and its contract is one law: a caller has it in its proof by calling the function.
 ghost use Rattle.std.specs.Prelude.{◌≡◌, ℕ, ◌+◌, ◌<◌, ◌^◌, List, length, Ok};
 ghost use Rattle.std.specs.List.{Contains};
 ghost use Rattle.sst_base.specs.Bytes.{IsBytes};

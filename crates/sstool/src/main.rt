@@ -15,8 +15,8 @@ fn progress_of<'r>(rt: &'r HostRuntime, name: &str) -> Progress<'r, HostRuntime>
     Progress::new(rt, is_visible)
 }
 
-// Parses the words, and runs their command. Returns the status: 0, that of the fault after a line on
-// `faults`, or 2 after words that are refused.
+// Parses the words, and runs their command. Returns the status: 0, that of the fault after a line
+// on `faults`, or 2 after words that are refused.
 fn run<O: Write, F: Write>(
     rt: &HostRuntime,
     words: &[String],

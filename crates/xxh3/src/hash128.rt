@@ -1,7 +1,9 @@
 //! The hash of 128 bits.
 ghost use Rattle.std.specs.Prelude.{◌≡◌, ◌+◌, ◌*◌, ◌^◌, ◌≤◌, ◌<◌, length};
-ghost use Rattle.xxh3.specs.Xxh3.{hash128_of_none, hash128_to_3, hash128_to_8, hash128_to_16, with_both, finished};
-ghost use Rattle.xxh3.specs.Xxh3.{hash128_to_128, run_sums, hash128_to_240, hash128_long, hash128_by, xxh3_128};
+ghost use Rattle.xxh3.specs.Xxh3.{hash128_of_none, hash128_to_3, hash128_to_8, hash128_to_16};
+ghost use Rattle.xxh3.specs.Xxh3.{with_both, finished};
+ghost use Rattle.xxh3.specs.Xxh3.{hash128_to_128, run_sums, hash128_to_240, hash128_long};
+ghost use Rattle.xxh3.specs.Xxh3.{hash128_by, xxh3_128};
 
 use crate::hash64::{few_bytes, hash64_to_3};
 use crate::secret::{SECRET_LEN, secret};

@@ -1,6 +1,7 @@
 //! The hash of 64 bits.
 ghost use Rattle.std.specs.Prelude.{◌≡◌, ◌+◌, ◌*◌, ◌≤◌, ◌<◌, length};
-ghost use Rattle.xxh3.specs.Xxh3.{few_bytes, hash64_to_3, hash64_to_8, hash64_to_16, hash64_to_128, hash64_to_240};
+ghost use Rattle.xxh3.specs.Xxh3.{few_bytes, hash64_to_3, hash64_to_8, hash64_to_16, hash64_to_128};
+ghost use Rattle.xxh3.specs.Xxh3.{hash64_to_240};
 ghost use Rattle.xxh3.specs.Xxh3.{run_sum, hash64_long, hash64_by, xxh3_64};
 
 use crate::secret::{SECRET_LEN, secret};

@@ -1,4 +1,5 @@
-//! XXH3, the hash function of xxHash 0.8, with the seed 0: of 64 bits, of 128 bits, and of a stream.
+//! XXH3, the hash function of xxHash 0.8, with the seed 0: of 64 bits, of 128 bits, and of a
+//! stream.
 #![tactic(auto)]
 
 mod hash128;

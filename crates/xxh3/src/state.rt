@@ -37,7 +37,8 @@ pub(crate) struct State {
 impl State {
     ghost use Rattle.std.specs.Prelude.{ℕ, ◌+◌, ◌-◌, ◌*◌, ◌/◌, List, [], ◌++◌};
     ghost use Rattle.std.specs.Prelude.{true};
-    ghost use Rattle.xxh3.specs.Xxh3.{default_secret, xxh3_64, xxh3_128, message_sums, hash64_by, hash128_by};
+    ghost use Rattle.xxh3.specs.Xxh3.{default_secret, xxh3_64, xxh3_128, message_sums, hash64_by};
+    ghost use Rattle.xxh3.specs.Xxh3.{hash128_by};
     ghost use Rattle.xxh3.specs.Held.{IsFedAt, IsFed};
 
     /// Starts with no bytes.
@@ -57,7 +58,8 @@ impl State {
 
     /// Adds bytes.
     pub(crate) fn update(&mut self, bytes: &[u8])
-        ensures { (message : List ℕ) → IsFed self.old message → IsFed self.new (message ++ bytes.now) }
+        ensures { (message : List ℕ) → IsFed self.old message → IsFed self.new (message ++
+            bytes.now) }
     {
         let room = BUFFER_LEN - self.filled;
         if bytes.len() <= room {

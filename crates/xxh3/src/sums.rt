@@ -1,6 +1,7 @@
 //! Messages of more than 240 bytes: eight sums over stripes of 64 bytes, in blocks of 16 stripes.
 ghost use Rattle.std.specs.Prelude.{◌≡◌, ◌+◌, ◌-◌, ◌*◌, ◌≤◌, ◌<◌, length};
-ghost use Rattle.xxh3.specs.Xxh3.{words, with_stripe, scrambled, with_stripes, message_sums, merged_sums, first_sums};
+ghost use Rattle.xxh3.specs.Xxh3.{words, with_stripe, scrambled, with_stripes, message_sums};
+ghost use Rattle.xxh3.specs.Xxh3.{merged_sums, first_sums};
 
 use crate::secret::SECRET_LEN;
 use crate::words::{self, avalanche, folded_product, word};
@@ -179,7 +180,8 @@ fn with_whole(
     )
 }
 
-// The sums with `count` stripes from `at` on, the first of which is the stripe `first` of its block.
+// The sums with `count` stripes from `at` on, the first of which is the stripe `first` of its
+// block.
 #[inline(always)]
 pub(crate) fn with_stripes(
     secret: &[u8; SECRET_LEN],

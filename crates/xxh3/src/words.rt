@@ -1,6 +1,7 @@
 //! Words of 64 bits: how they are read and mixed.
 ghost use Rattle.std.specs.Prelude.{◌≡◌, ◌+◌, ◌*◌, ◌/◌, ◌%◌, ◌^◌, ◌≤◌, ◌<◌, length};
-ghost use Rattle.xxh3.specs.Xxh3.{word, half_word, pair, folded_product, avalanche, old_avalanche, mixed};
+ghost use Rattle.xxh3.specs.Xxh3.{word, half_word, pair, folded_product, avalanche, old_avalanche};
+ghost use Rattle.xxh3.specs.Xxh3.{mixed};
 ghost use Rattle.xxh3.specs.Xxh3.{negated, length_sum, xorshift};
 
 use crate::secret::SECRET_LEN;

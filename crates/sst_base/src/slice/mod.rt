@@ -1,7 +1,8 @@
 //! Immutable byte strings.
 ghost use Rattle.std.specs.Prelude.{◌≡◌, ◌+◌, ◌^◌, ◌<◌, ◌≤◌, ◌==◌};
 ghost use Rattle.std.specs.Prelude.{◌++◌, [], length, slice_range, take, drop, ◌-◌};
-ghost use Rattle.std.specs.Prelude.{string_bytes, nat_eq, refl, Some, IfOk, IfSome, IsOk, IsOkUnless, IsTrue};
+ghost use Rattle.std.specs.Prelude.{string_bytes, nat_eq, refl, Some, IfOk, IfSome, IsOk};
+ghost use Rattle.std.specs.Prelude.{IsOkUnless, IsTrue};
 ghost use Rattle.std.specs.Prelude.{◌↔◌, ◌⊎◌, ℕ, List, IfErr};
 ghost use Rattle.std.specs.Iterator.{IsFinite, Drains};
 ghost use Rattle.std.specs.Ordering.{nat_cmp};
@@ -263,8 +264,8 @@ impl Slice {
         Ok(self.part(slice::range(range, ..self.len()))?)
     }
 
-    /// Returns the bytes in a range, as [`Slice::slice`] does. The error has no parts, so that a hot
-    /// caller needs no space for one.
+    /// Returns the bytes in a range, as [`Slice::slice`] does. The error has no parts, so that a
+    /// hot caller needs no space for one.
     ///
     /// # Errors
     ///
@@ -316,8 +317,8 @@ impl Slice {
         }
     }
 
-    /// Copies the first `len` bytes of a byte string. A few are copied faster where more bytes follow
-    /// them.
+    /// Copies the first `len` bytes of a byte string. A few are copied faster where more bytes
+    /// follow them.
     ///
     /// # Errors
     ///

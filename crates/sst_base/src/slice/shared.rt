@@ -10,13 +10,15 @@ use std::sync::Arc;
 // Words that fill the room of a short byte string.
 const FILL: [usize; 2] = [0, 0];
 
-/// A part of the bytes of a `Bytes` that may have several owners. Clauses see the list of its bytes.
+/// A part of the bytes of a `Bytes` that may have several owners. Clauses see the list of its
+/// bytes.
 ///
 /// Its room is that of a short byte string's 40 bytes, which are copied as two pieces of 16 bytes
-/// and one of 8. The pointer is the last word: where a [`super::Slice`] is moved, its place is moved
-/// apart from the others, and these are then the same pieces. A pointer in another place, or a field
-/// of one byte, as a `Bytes` has one, would cut the bytes in other pieces, and each read of one of
-/// them would wait until those that it lies over are stored. So the `Bytes` lies behind the pointer.
+/// and one of 8. The pointer is the last word: where a [`super::Slice`] is moved, its place is
+/// moved apart from the others, and these are then the same pieces. A pointer in another place, or
+/// a field of one byte, as a `Bytes` has one, would cut the bytes in other pieces, and each read of
+/// one of them would wait until those that it lies over are stored. So the `Bytes` lies behind the
+/// pointer.
 #[derive(Drop)]
 pub(crate) struct SharedBytes {
     start: usize,

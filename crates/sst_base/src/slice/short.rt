@@ -52,8 +52,8 @@ impl ShortBytes {
         }
     }
 
-    /// Copies the first `len` bytes of a byte string, where more follow as a whole array: so the copy
-    /// has one length, and goes by registers.
+    /// Copies the first `len` bytes of a byte string, where more follow as a whole array: so the
+    /// copy has one length, and goes by registers.
     #[inline(always)]
     pub(crate) fn front(bytes: &[u8], len: usize) -> ShortBytes
         requires inside { len ≤ length bytes.now }
@@ -72,8 +72,8 @@ impl ShortBytes {
         }
     }
 
-    /// Copies the first bytes of two byte strings, the second's after the first's, where more follow
-    /// both as whole arrays: so both copies have one length, and go by registers.
+    /// Copies the first bytes of two byte strings, the second's after the first's, where more
+    /// follow both as whole arrays: so both copies have one length, and go by registers.
     #[inline(always)]
     pub(crate) fn joined_fronts(
         left: &[u8],

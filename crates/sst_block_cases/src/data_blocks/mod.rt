@@ -97,8 +97,8 @@ pub fn data_block<H: BlockHash>(
     }
 }
 
-/// Performs a command on the block of the payload. A command reads the words that need no block first,
-/// so that it refuses these whatever the payload is.
+/// Performs a command on the block of the payload. A command reads the words that need no block
+/// first, so that it refuses these whatever the payload is.
 fn answer<H: BlockHash>(
     alloc: Global,
     room: &mut Room,

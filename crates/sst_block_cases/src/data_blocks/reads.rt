@@ -152,8 +152,8 @@ fn extended(alloc: Global, prefix: &[u8], last: Option<u8>) -> Result<Vec<u8>> {
     Ok(key)
 }
 
-/// Reads a key, which is a prefix and maybe another byte, from a block without the table of its heads
-/// and with it.
+/// Reads a key, which is a prefix and maybe another byte, from a block without the table of its
+/// heads and with it.
 fn read_extended<H: BlockHash>(
     alloc: Global,
     blocks: Blocks<'_, H>,
@@ -165,8 +165,8 @@ fn read_extended<H: BlockHash>(
     read_from_both(alloc, blocks, key.as_slice(), seqno)
 }
 
-/// Reads the key of an entry at its sequence number and at the next, an extension of it, its prefix,
-/// the keys around it, and its end.
+/// Reads the key of an entry at its sequence number and at the next, an extension of it, its
+/// prefix, the keys around it, and its end.
 fn add_reads<H: BlockHash>(
     alloc: Global,
     reads: &mut Reads,

@@ -112,8 +112,8 @@ fn all_heads(alloc: Global, checked: &str, new: &str, made: &str) -> Result<Stri
     Ok(format!(in alloc; "checked {checked}, new {new}, made {made}")?)
 }
 
-/// Which blocks have a table of their heads, and of how many: one that was checked, its clone, one that
-/// is new, its clone, and one of which the table was made.
+/// Which blocks have a table of their heads, and of how many: one that was checked, its clone, one
+/// that is new, its clone, and one of which the table was made.
 pub fn table<H: BlockHash>(alloc: Global, opened: &Opened<H>) -> Result<String> {
     let checked = opened.tabled()?;
     let first = heads_of(alloc, checked)?;

@@ -190,7 +190,8 @@ fn text_of(alloc: Global, answers: &[Answer<InternalValue>]) -> Result<String> {
     row.text()
 }
 
-/// The word of an entry that is taken from an iterator that owns its block, by the item of the step.
+/// The word of an entry that is taken from an iterator that owns its block, by the item of the
+/// step.
 fn taken_item<H: BlockHash>(
     alloc: Global,
     iter: &mut IntoEntries<H>,
@@ -207,8 +208,8 @@ fn taken_item<H: BlockHash>(
     }
 }
 
-/// The word of an entry that is taken from an iterator that owns its block, and made: by one call, or
-/// by the item of the step.
+/// The word of an entry that is taken from an iterator that owns its block, and made: by one call,
+/// or by the item of the step.
 fn taken_owned<H: BlockHash>(
     alloc: Global,
     iter: &mut IntoEntries<H>,
@@ -268,8 +269,8 @@ fn take_rest<H: BlockHash>(alloc: Global, iter: &mut IntoEntries<H>, size: usize
     Ok(taken)
 }
 
-/// Performs operations of an iterator that owns its block of so many entries, and takes what is left,
-/// which are as many entries as it says.
+/// Performs operations of an iterator that owns its block of so many entries, and takes what is
+/// left, which are as many entries as it says.
 fn to_the_end<H: BlockHash>(
     alloc: Global,
     iter: &mut IntoEntries<H>,
@@ -286,8 +287,8 @@ fn to_the_end<H: BlockHash>(
     Ok(format!(in alloc; "{text}, {left} left, {taken} taken")?)
 }
 
-/// Performs operations of an iterator that owns its block, and takes what is left; the iterator returns
-/// its block, which is whole.
+/// Performs operations of an iterator that owns its block, and takes what is left; the iterator
+/// returns its block, which is whole.
 fn by_owner<H: BlockHash>(
     alloc: Global,
     block: &DataBlock<H>,
@@ -331,8 +332,8 @@ fn after<H: BlockHash>(
     )
 }
 
-/// Steps of an iterator that every kind has: by one that borrows its block, by `walk`, and by one that
-/// owns it.
+/// Steps of an iterator that every kind has: by one that borrows its block, by `walk`, and by one
+/// that owns it.
 pub fn walks<H: BlockHash>(alloc: Global, opened: &Opened<H>, words: &[&str]) -> Result<String> {
     let (steps, blocks) = (steps_of(alloc, words)?, opened.both()?);
     let ops = ops_of(alloc, words)?;

@@ -13,7 +13,8 @@ use std::alloc::Global;
 /// The longest end key.
 const MAX_KEY_LEN: usize = 65535;
 
-/// Returns the handle that a word encodes: sequence number, end key, offset and size, joined by dots.
+/// Returns the handle that a word encodes: sequence number, end key, offset and size, joined by
+/// dots.
 fn handle_of(alloc: Global, word: &str) -> Result<KeyedBlockHandle> {
     let (seqno, key, offset, size) = parts_of(word).ok_or(Fault::Word)?;
     let (seqno, offset) = (number_of(seqno)?, number_of(offset)?);
@@ -110,8 +111,8 @@ fn text_of(alloc: Global, handle: KeyedBlockHandle, other: &KeyedBlockHandle) ->
     Ok(format!(in alloc; "{word}, the same {same}, plain {plain}")?)
 }
 
-/// A handle whose offset is greater by a number, whether it is the handle before, and whether it is a
-/// plain handle of its parts: HANDLE NUMBER.
+/// A handle whose offset is greater by a number, whether it is the handle before, and whether it is
+/// a plain handle of its parts: HANDLE NUMBER.
 fn shift(alloc: Global, words: &[&str]) -> Result<String> {
     let [word, by] = words else {
         return Err(Fault::Word);
@@ -159,8 +160,8 @@ fn heads_made(alloc: Global, payload: &[u8]) -> Result<String> {
     }
 }
 
-/// Which blocks have a table of their heads, and of how many: one that was checked, its clone, one that
-/// is new, its clone, and one of which the table was made.
+/// Which blocks have a table of their heads, and of how many: one that was checked, its clone, one
+/// that is new, its clone, and one of which the table was made.
 fn table(alloc: Global, room: &Room) -> Result<String> {
     let payload = room.payload.as_slice();
     let checked = heads_checked(alloc, payload)?;

@@ -14,8 +14,8 @@ use sst_block_core::table::index_block::{Answer, HandleView, HandleViews, IndexO
 use sst_block_core::{IndexBlock, IndexBlockParsedItem, IndexBlockRef, KeyedBlockHandle};
 use std::alloc::Global;
 
-/// The operation of a word: a step, or a seek with its name, its key and its sequence number, joined
-/// by `:`.
+/// The operation of a word: a step, or a seek with its name, its key and its sequence number,
+/// joined by `:`.
 fn op_of(alloc: Global, word: &str) -> Result<IndexOp> {
     if word == "next" {
         return Ok(IndexOp::Next);
@@ -168,7 +168,8 @@ fn walked_over(alloc: Global, room: &Room, ops: &[IndexOp], tabled: bool) -> Res
     walked(alloc, &block, ops)
 }
 
-/// What `walk` answers over a clone, without the table of the heads and with it, after another answer.
+/// What `walk` answers over a clone, without the table of the heads and with it, after another
+/// answer.
 fn walked_after(
     alloc: Global,
     room: &Room,
@@ -181,8 +182,8 @@ fn walked_after(
     alike(alloc, all, "by walk with a table", tabled)
 }
 
-/// Steps of an iterator, by one that borrows its block, and by `walk` over a clone, without the table
-/// of the heads and with it.
+/// Steps of an iterator, by one that borrows its block, and by `walk` over a clone, without the
+/// table of the heads and with it.
 fn walks(alloc: Global, room: &Room, words: &[&str]) -> Result<String> {
     let all = steps(alloc, room, words)?;
     let ops = ops_of(alloc, words)?;
@@ -260,8 +261,8 @@ fn between_of(alloc: Global, room: &Room, from: &Bound, upto: &Bound) -> Result<
     alike(alloc, front, "from the back", back)
 }
 
-/// The handles between two bounds, the lower one sought first from the front, and the upper one first
-/// from the back: BOUND BOUND.
+/// The handles between two bounds, the lower one sought first from the front, and the upper one
+/// first from the back: BOUND BOUND.
 fn between(alloc: Global, room: &Room, words: &[&str]) -> Result<String> {
     let [from, upto] = words else {
         return Err(Fault::Word);

@@ -20,8 +20,8 @@ fn ratio<H: BlockHash>(alloc: Global, words: &[&str]) -> Result<String> {
     Ok(format!(in alloc; "{}", builder.bucket_count())?)
 }
 
-/// Two interval numbers that are set in one bucket: whether each is kept, the bucket's byte, and how
-/// many conflicts there are: NUMBER NUMBER.
+/// Two interval numbers that are set in one bucket: whether each is kept, the bucket's byte, and
+/// how many conflicts there are: NUMBER NUMBER.
 fn set_two<H: BlockHash>(alloc: Global, words: &[&str]) -> Result<String> {
     let [first, second] = words else {
         return Err(Fault::Word);

@@ -129,8 +129,8 @@ fn by_owner(alloc: Global, bytes: &[u8], words: &[&str]) -> Result<String> {
     steps(alloc, owned.double_ended_peekable(), words)
 }
 
-/// Calls of peekable iterators over bytes: one that borrows them, one that owns them, and one that is
-/// wrapped again.
+/// Calls of peekable iterators over bytes: one that borrows them, one that owns them, and one that
+/// is wrapped again.
 fn by_each(alloc: Global, bytes: &[u8], words: &[&str]) -> Result<String> {
     let borrowed = steps(alloc, bytes.iter().double_ended_peekable(), words);
     let again = bytes.iter().double_ended_peekable();

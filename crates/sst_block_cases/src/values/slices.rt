@@ -11,8 +11,8 @@ fn is_equal_to_new(alloc: Global, slice: &Slice) -> Result<bool> {
     Ok(Slice::new(alloc, slice.as_slice())? == *slice)
 }
 
-/// The text of a slice: its bytes, its length, whether it is empty, and whether it is equal to a new
-/// one of its bytes.
+/// The text of a slice: its bytes, its length, whether it is empty, and whether it is equal to a
+/// new one of its bytes.
 fn text_of(alloc: Global, slice: &Slice) -> Result<String> {
     let (count, empty) = (slice.len(), slice.is_empty());
     let same = is_equal_to_new(alloc, slice)?;
@@ -114,8 +114,8 @@ fn fused(alloc: Global, words: &[&str]) -> Result<String> {
     }
 }
 
-/// A part of a slice, from an offset up to another, also by the open range if it begins or ends where
-/// the slice does.
+/// A part of a slice, from an offset up to another, also by the open range if it begins or ends
+/// where the slice does.
 fn part_of(alloc: Global, whole: &Slice, start: usize, end: usize) -> Result<String> {
     if start > end || end > whole.len() {
         return Err(Fault::Word);

@@ -251,7 +251,8 @@ pub fn compact(alloc: Global, room: &Room, words: &[&str]) -> Result<String> {
     }
 }
 
-/// What a snapshot sees of the sources, or of a compaction of them: SEQNO, or SEQNO SNAPSHOTS LEVEL.
+/// What a snapshot sees of the sources, or of a compaction of them: SEQNO, or SEQNO SNAPSHOTS
+/// LEVEL.
 pub fn snapshot(alloc: Global, room: &Room, words: &[&str]) -> Result<String> {
     match words {
         [seqno] => {

@@ -46,7 +46,8 @@ impl Outputs for Kept {
     }
 }
 
-/// How a source is compacted: for some snapshots, at a level, into blocks and tables of these sizes.
+/// How a source is compacted: for some snapshots, at a level, into blocks and tables of these
+/// sizes.
 #[derive(Drop)]
 struct Plan {
     snapshots: Vec<u64>,

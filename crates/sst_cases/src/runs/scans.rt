@@ -81,7 +81,8 @@ fn word_of_step<S: BothEnds>(alloc: Global, scan: &mut S, is_first: bool) -> Res
     }
 }
 
-/// Appends what a step of a scan takes: `n` takes the first entry left, and another letter the last.
+/// Appends what a step of a scan takes: `n` takes the first entry left, and another letter the
+/// last.
 fn push_step<S: BothEnds>(
     alloc: Global,
     scan: &mut S,

@@ -161,7 +161,8 @@ fn keep(alloc: Global, room: &mut Room, run: Written, is_same: bool) -> Result<S
     Ok(text)
 }
 
-/// Writes the list as a run, at once and block by block: INTERVAL NUM DEN BITS INDEX_INTERVAL CUT ..
+/// Writes the list as a run, at once and block by block: INTERVAL NUM DEN BITS INDEX_INTERVAL CUT
+/// ..
 fn write<H: BlockHash>(alloc: Global, room: &mut Room, words: &[&str]) -> Result<String> {
     let (form, cuts) = words.split_at_checked(5).ok_or(Fault::Word)?;
     let config = config_of(form)?;

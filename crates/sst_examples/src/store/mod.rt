@@ -1,6 +1,7 @@
 //! A small store of versions of keys, over `sst_merge`: writes go into an ordered list in memory,
 //! which is flushed into a table, and the tables are compacted into one. Tables are in memory too.
-ghost use Rattle.std.specs.Prelude.{◌≡◌, ◌≤◌, ◌<◌, ◌^◌, ℕ, List, ◌∷◌, [], Some, None, map, length, true};
+ghost use Rattle.std.specs.Prelude.{◌≡◌, ◌≤◌, ◌<◌, ◌^◌, ℕ, List, ◌∷◌, [], Some, None, map, length};
+ghost use Rattle.std.specs.Prelude.{true};
 ghost use Rattle.std.specs.Prelude.{IfErr, IfOk, OnOk, OnErr, ◌+◌, ◌++◌, filter, nat_eq, not};
 ghost use Rattle.sst_examples.specs.Levels.{IsFull, IsVersionWritten, read, version, versions};
 ghost use Rattle.sst_merge.specs.Compact.{IsKeptRead, compacted};
@@ -75,8 +76,8 @@ impl Store {
     ///
     /// # Errors
     ///
-    /// `Error::TooLong` if the sequence numbers are used up, `Error::Memory` if an allocation fails.
-    /// The store is then as it was.
+    /// `Error::TooLong` if the sequence numbers are used up, `Error::Memory` if an allocation
+    /// fails. The store is then as it was.
     pub fn put(&mut self, key: UserKey, value: UserValue) -> Result<SeqNo>
         requires key { (1 ≤ length key) × (length key ≤ 65535) }
         requires value { length value < 2 ^ 32 }
@@ -185,8 +186,8 @@ impl Store {
         Ok(())
     }
 
-    /// Opens a snapshot: a read at the sequence number that is returned, which nothing else has, sees
-    /// what was written before, until the snapshot is released.
+    /// Opens a snapshot: a read at the sequence number that is returned, which nothing else has,
+    /// sees what was written before, until the snapshot is released.
     ///
     /// # Errors
     ///
@@ -228,8 +229,8 @@ impl Store {
         Ok(all)
     }
 
-    /// Compacts all tables into one, without the versions that no read at an open snapshot, or at the
-    /// next sequence number or above, sees. Other reads may see a difference.
+    /// Compacts all tables into one, without the versions that no read at an open snapshot, or at
+    /// the next sequence number or above, sees. Other reads may see a difference.
     ///
     /// # Errors
     ///

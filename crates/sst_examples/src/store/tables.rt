@@ -1,6 +1,7 @@
 //! The tables: written into memory, opened, and scanned.
 ghost use Rattle.std.specs.Prelude.{◌≡◌, List, Some, map, IfOk, OnOk, OnErr, IsSome};
-ghost use Rattle.sst_examples.specs.Tables.{HoldsEntries, merged_tables, table_entries, table_hashes};
+ghost use Rattle.sst_examples.specs.Tables.{HoldsEntries, merged_tables, table_entries};
+ghost use Rattle.sst_examples.specs.Tables.{table_hashes};
 ghost use Rattle.sst_merge.specs.Sources.{before};
 ghost use Rattle.sst_merge.specs.Tables.{entries_in};
 ghost use Rattle.sstable_blocks.specs.Blocks.{joined};

@@ -273,8 +273,8 @@ fn each_call_of_a_device_may_fail(rt: HostRuntime) {
     }
 }
 
-// Whether the frame of `abc` is written to a writer that takes a byte a call, and read from a reader
-// that gives one, up to the call that fails.
+// Whether the frame of `abc` is written to a writer that takes a byte a call, and read from a
+// reader that gives one, up to the call that fails.
 fn is_moved(alloc: Global, fails_at: usize) -> bool {
     let mut writer = SlowWriter::new(Vec::new(alloc), fails_at);
     let written = Block::write_into::<ByteSum, SlowWriter>(&mut writer, b"abc", BlockType::Data);
@@ -324,8 +324,8 @@ fn hash_written(alloc: Global) -> (Option<usize>, Checksum, bool, Checksum, bool
     (taken, first, is_refused, second, is_kept)
 }
 
-// Reads two bytes and two more of five: the number of the first, the checksum, whether the second are
-// read, the checksum, and whether the last byte is left.
+// Reads two bytes and two more of five: the number of the first, the checksum, whether the second
+// are read, the checksum, and whether the last byte is left.
 fn hash_read() -> (Option<usize>, Checksum, bool, Checksum, bool) {
     let bytes = b"abcde".as_slice();
     let mut reader: ChecksummedReader<&[u8], ByteSum> = ChecksummedReader::new(bytes);

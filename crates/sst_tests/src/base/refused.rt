@@ -1,5 +1,5 @@
-//! Calls in a run in which one allocation fails: a call that fails for memory leaves what it was given
-//! as it was, and succeeds when it is made again.
+//! Calls in a run in which one allocation fails: a call that fails for memory leaves what it was
+//! given as it was, and succeeds when it is made again.
 use bytes::Bytes;
 use sst_base::{Error, Result, Slice, encode_varint};
 use std::alloc::Global;

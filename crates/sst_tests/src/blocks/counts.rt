@@ -1,5 +1,5 @@
-//! How many heads and entries calls of iterators count at most. Each function makes one call, and its
-//! contract is the bound.
+//! How many heads and entries calls of iterators count at most. Each function makes one call, and
+//! its contract is the bound.
 ghost use Rattle.std.specs.Prelude.{◌≡◌, ◌+◌, ◌≤◌, length, IsTrue};
 ghost use Rattle.sst_block_core.specs.Candidates.{scan_cost};
 
@@ -52,8 +52,8 @@ pub fn seek_counts_two_of_three(iter: &mut Iter<'_>, needle: &[u8]) -> bool
     iter.seek(needle)
 }
 
-/// Takes the first entry left of an iterator that owns its block: an entry is counted where there is
-/// one, and no head.
+/// Takes the first entry left of an iterator that owns its block: an entry is counted where there
+/// is one, and no head.
 pub fn owned_next_counts_one(iter: &mut IntoEntries<Poly31>) -> bool
     ensures heads { iter.new.steps.heads ≡ iter.old.steps.heads }
     ensures entries { IsTrue result → iter.new.steps.entries ≡ iter.old.steps.entries + 1 }

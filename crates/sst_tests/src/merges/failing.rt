@@ -157,8 +157,8 @@ fn is_refused(alloc: Global) -> Result<bool> {
     Ok(Head::new(alloc, failing_after(alloc, 0)?).is_err())
 }
 
-/// Checks what is counted of what is made of a source that fails after so many steps: of a merge, of
-/// a snapshot, and of a compaction.
+/// Checks what is counted of what is made of a source that fails after so many steps: of a merge,
+/// of a snapshot, and of a compaction.
 fn check_counts(
     rt: &impl Abort,
     alloc: Global,

@@ -44,8 +44,8 @@ impl Reader for Level {
     }
 }
 
-/// Whether a read of two levels, a tombstone of the key b at number 5 and a level that fails, finds a
-/// version of a key.
+/// Whether a read of two levels, a tombstone of the key b at number 5 and a level that fails, finds
+/// a version of a key.
 fn is_found(alloc: Global, key: u8, seqno: SeqNo) -> Result<bool> {
     let newer = entry_of(alloc, &Row(b'b', 5, T), 0)?;
     let mut levels = [Level::Held(newer), Level::Failing];

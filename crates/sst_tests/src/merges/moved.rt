@@ -19,8 +19,8 @@ use std::alloc::Global;
 use std::process::Abort;
 
 /// A step: 0 from the front, 1 from the back, 2 a search from the front, 3 one from the back; the
-/// key that is sought; and the key, the sequence number and the list of what the step gives, the key 0
-/// where it gives nothing.
+/// key that is sought; and the key, the sequence number and the list of what the step gives, the
+/// key 0 where it gives nothing.
 struct Step(u8, u8, u8, u64, u8);
 
 /// Three lists, in which versions are equal.
@@ -241,8 +241,8 @@ fn table_of(
     MovableTable::new(alloc, table)
 }
 
-/// Takes all steps of a merge of three tables, the second of which fails at a frame, up to the first
-/// error, after which each step and search is to give it.
+/// Takes all steps of a merge of three tables, the second of which fails at a frame, up to the
+/// first error, after which each step and search is to give it.
 fn take_steps(rt: &impl Abort, alloc: Global, fails_at: usize) -> Result<()> {
     let mut sources = Vec::new(alloc);
     sources.push(table_of(alloc, &FIRST, 1, usize::MAX)?)?;
@@ -264,7 +264,8 @@ fn a_merge_of_tables_is_moved_as_a_window(rt: HostRuntime) {
     assert!(rt; take_steps(&rt, rt.alloc(), usize::MAX) == Ok(()));
 }
 
-/// How many frames of the second table all steps ask for, those of its index and of both ends with it.
+/// How many frames of the second table all steps ask for, those of its index and of both ends with
+/// it.
 const FRAMES: usize = 29;
 
 #[test]

@@ -1,5 +1,5 @@
-//! Runs with long keys and a long index: each call that takes memory is given enough, and then has to
-//! succeed.
+//! Runs with long keys and a long index: each call that takes memory is given enough, and then has
+//! to succeed.
 ghost use Rattle.std.specs.Prelude.{None};
 
 use crate::runs::lists::{NO_BUCKETS, push};

@@ -228,8 +228,8 @@ impl Write for Room {
     }
 }
 
-/// What is returned as each of three blocks is added to a writer, the number of blocks then, and what
-/// is returned at the end.
+/// What is returned as each of three blocks is added to a writer, the number of blocks then, and
+/// what is returned at the end.
 type Added = ([Result<()>; 3], usize, Option<Error>);
 
 /// Adds entries as blocks to a writer, one in each.

@@ -1,5 +1,5 @@
-//! What a scan asks of a run: that it opens the block at an index, and of a block that its items are
-//! taken from both ends. A cache of blocks is a second thing that opens them.
+//! What a scan asks of a run: that it opens the block at an index, and of a block that its items
+//! are taken from both ends. A cache of blocks is a second thing that opens them.
 ghost use Rattle.std.specs.Prelude.{◌≡◌, ◌+◌, ◌<◌, ◌≤◌, List, [], None, false, length, true};
 ghost use Rattle.sstable_blocks.specs.BlockReading.{AreBlocks, Opens, OpensPaid, Reading};
 ghost use Rattle.sstable_blocks.specs.BlockReading.{TakesEnd, items_of};

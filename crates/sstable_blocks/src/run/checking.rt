@@ -257,7 +257,8 @@ fn check_blocks<H: BlockHash, S: FrameSource>(
     ensures source { UsesSource S.bytes S.failures S.reads S.is_reliable
         (AsksIfOk (λ _. length index.now.items)) source.old source.new result }
     ensures asked { AsksAs S.bytes S.failures S.reads source.old source.new result
-        (λ all. blocks_frames (hashes H.hash64 H.hash128) all filter.now none_passed index.now.items) }
+        (λ all. blocks_frames (hashes H.hash64 H.hash128) all filter.now none_passed
+        index.now.items) }
     ensures exact { ReadsAs S.bytes S.failures S.is_reliable source.old source.new (λ s. s) result
         (λ all. check_from (hashes H.hash64 H.hash128) all filter.now none_passed index.now.items) }
 {

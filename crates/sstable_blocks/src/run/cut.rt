@@ -22,8 +22,8 @@ use sst_block_core::table::data_block::{EntryView, IntoEntries};
 use std::alloc::Global;
 use std::marker::Model;
 
-/// A run whose blocks are opened and cut by bounds. Clauses see the run, the range of keys, and what
-/// was counted: of the index, and of the blocks that are no longer open.
+/// A run whose blocks are opened and cut by bounds. Clauses see the run, the range of keys, and
+/// what was counted: of the index, and of the blocks that are no longer open.
 #[derive(Drop)]
 pub(crate) struct Cut<'k, R> {
     pub(crate) run: R,
@@ -107,8 +107,8 @@ impl<'a> Ended for OpenBlock<'a> {
     }
 }
 
-// Opens the block of the handle at an index, and cuts it by the bounds. The handles that are decoded
-// are added to `steps`, also where the block is refused.
+// Opens the block of the handle at an index, and cuts it by the bounds. The handles that are
+// decoded are added to `steps`, also where the block is refused.
 #[tactic(auto, using(crate::proofs::Scans::ScanCounts::few_within))]
 fn cut_block<H: BlockHash, S: FrameSource>(
     alloc: Global,

@@ -1,7 +1,8 @@
 //! The steps of a scan, from either end: which blocks are opened, and which items are taken.
 //!
-//! What opens blocks is one function for both ends, to which they are passed as near and far. What takes
-//! an item is a function for each end: inlined into its callers, one of both would be too long.
+//! What opens blocks is one function for both ends, to which they are passed as near and far. What
+//! takes an item is a function for each end: inlined into its callers, one of both would be too
+//! long.
 ghost use Rattle.std.specs.Prelude.{◌≡◌, ◌+◌, ◌<◌, ◌≤◌, None, false, length, nat_lt, true};
 ghost use Rattle.sstable_blocks.specs.BlockReading.{TakesEnd, items_of};
 ghost use Rattle.sstable_blocks.specs.Ends.{AreEnds, IsReady, Pays, PaysOnce, TakesNear, counts_of};
@@ -157,12 +158,13 @@ fn ready<B: Ended, S: Blocks<B>, const BACK: bool>(
     turn::<B, S, BACK>(room, blocks, near, between, far)
 }
 
-/// Takes the first item left: `near` is the block that was opened from the front, `far` that from the back. The error of a step that fails is kept; no step before it
-/// failed.
+/// Takes the first item left: `near` is the block that was opened from the front, `far` that from
+/// the back. The error of a step that fails is kept; no step before it failed.
 ///
 /// # Errors
 ///
-/// That of [`Blocks::open`] where a block is refused, and that of [`Ended`] where the item is not made.
+/// That of [`Blocks::open`] where a block is refused, and that of [`Ended`] where the item is not
+/// made.
 #[inline(always)]
 pub fn step_front<B: Ended, S: Blocks<B>>(
     room: B::Room,
@@ -189,12 +191,13 @@ pub fn step_front<B: Ended, S: Blocks<B>>(
     take_first::<B>(room, near, ended)
 }
 
-/// Takes the last item left: `near` is the block that was opened from the back, `far` that from the front. The error of a step that fails is kept; no step before it
-/// failed.
+/// Takes the last item left: `near` is the block that was opened from the back, `far` that from the
+/// front. The error of a step that fails is kept; no step before it failed.
 ///
 /// # Errors
 ///
-/// That of [`Blocks::open`] where a block is refused, and that of [`Ended`] where the item is not made.
+/// That of [`Blocks::open`] where a block is refused, and that of [`Ended`] where the item is not
+/// made.
 #[inline(always)]
 pub fn step_back<B: Ended, S: Blocks<B>>(
     room: B::Room,

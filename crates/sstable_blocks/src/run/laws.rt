@@ -2,7 +2,8 @@
 //! proof by calling the function.
 ghost use Rattle.std.specs.Prelude.{◌≤◌, ◌≡◌, ℕ, ◌<◌, ◌^◌, List, length, map, slice_get, Ok};
 ghost use Rattle.sst_block_core.specs.Entries.{entries};
-ghost use Rattle.sstable_blocks.specs.RunReading.{Hashes, hashes, handles_at, read_checked, AnswerMeans};
+ghost use Rattle.sstable_blocks.specs.RunReading.{Hashes, hashes, handles_at, read_checked};
+ghost use Rattle.sstable_blocks.specs.RunReading.{AnswerMeans};
 ghost use Rattle.sst_base.specs.Bytes.{IsBytes};
 ghost use Rattle.std.specs.Prelude.{Option, IfSome};
 ghost use Rattle.std.specs.List.{AllByRecursion, AllZip};

@@ -272,9 +272,9 @@ impl<'r, R: LockFiles> NewFile<'r, R> {
         BufferedFile::new(alloc, self.file.try_clone()?)
     }
 
-    /// Renames the file over the one of its name, and syncs the folder, so that the rename lasts. Where
-    /// the folder cannot be opened or synced nothing is told: the file is whole under either name, but
-    /// after a power cut it may be the old one that is there.
+    /// Renames the file over the one of its name, and syncs the folder, so that the rename lasts.
+    /// Where the folder cannot be opened or synced nothing is told: the file is whole under either
+    /// name, but after a power cut it may be the old one that is there.
     ///
     /// # Errors
     ///

@@ -108,8 +108,8 @@ impl<'a> OpenBlock<'a> {
     }
 }
 
-/// Opens the block of the handle at an index in the place of one that was opened before: its entries
-/// in the range. The handles that are decoded are added to `steps`.
+/// Opens the block of the handle at an index in the place of one that was opened before: its
+/// entries in the range. The handles that are decoded are added to `steps`.
 pub(super) fn open_at<'a, H: BlockHash>(
     run: &RunRef<'a, H>,
     bounds: &Bounds<'_>,

@@ -54,15 +54,16 @@ fn is_allowed(bytes: &[u8], filter: &Option<BlockHandle>, hash: u64) -> bool
     OpenFilter::new(bytes, filter).allows(hash)
 }
 
-/// Returns the index block in a frame of bytes, which it borrows. Nothing is tested, and it has no table
-/// of its heads.
+/// Returns the index block in a frame of bytes, which it borrows. Nothing is tested, and it has no
+/// table of its heads.
 #[tactic(auto, using(crate::specs::RunLaws::payload_fits))]
 pub fn index_over<'a>(bytes: &'a [u8], handle: &BlockHandle) -> IndexBlockRef<'a>
     requires range { IsFrameRange bytes.now handle.now }
     requires index { (items : List Handle) × (r : ℕ)
         × IsIndexBlock (payload_in bytes.now handle.now) items r }
     ensures parts { result ≡ index_ref_of (payload_in bytes.now handle.now) false }
-    ensures read { (items : List Handle) (r : ℕ) → IsIndexBlock (payload_in bytes.now handle.now) items r
+    ensures read { (items : List Handle) (r : ℕ) → IsIndexBlock (payload_in bytes.now handle.now)
+        items r
         → (result.items ≡ items) × (result.interval ≡ r) }
 {
     // A size has 32 bits.
@@ -134,8 +135,8 @@ pub(crate) fn shared_payload(bytes: &Slice, handle: &BlockHandle) -> AllocResult
     bytes.part(start + HEADER_LEN..start + handle.size() as usize)
 }
 
-/// Makes the entry at a place in these bytes that [`RunRef::locate`](super::RunRef::locate) returned. Its value, and its
-/// key where that is encoded in full, share the bytes.
+/// Makes the entry at a place in these bytes that [`RunRef::locate`](super::RunRef::locate)
+/// returned. Its value, and its key where that is encoded in full, share the bytes.
 ///
 /// # Errors
 ///

@@ -205,8 +205,8 @@ impl<'a, H: BlockHash> RunRef<'a, H> {
         let _sound = self.bytes;
     }
 
-    // The frame of the block of the handle at an index of the index. The handles that are decoded are
-    // added to `steps`.
+    // The frame of the block of the handle at an index of the index. The handles that are decoded
+    // are added to `steps`.
     pub(crate) fn frame_at(&self, index: usize, steps: &mut Steps) -> BlockHandle
         requires { index < length (index_in self.now.bytes self.now.handles.index) }
         ensures handle { AtRunHandle self.now index (λ h. result ≡ range_of h) }

@@ -74,9 +74,9 @@ impl<'a, 'k, H: BlockHash> Model for RunScan<'a, 'k, H> {
 
 impl<'a, 'k, H: BlockHash> RunScan<'a, 'k, H> {
     /// Returns what was counted since the scan was made: the heads that were compared, and the
-    /// entries that were decoded, of the index and of the blocks. Of the index these are the handles
-    /// of a restart interval up to that of each block that was opened, and what the search for the
-    /// ends of the range examined.
+    /// entries that were decoded, of the index and of the blocks. Of the index these are the
+    /// handles of a restart interval up to that of each block that was opened, and what the search
+    /// for the ends of the range examined.
     pub fn steps(&self) -> Steps
         ensures heads { result.heads ≡ self.now.counted.heads }
         ensures entries { result.entries ≡ self.now.counted.entries }

@@ -45,8 +45,8 @@ impl<'a, H: BlockHash> Model for SharedRun<'a, H> {
 }
 
 impl<'a, H: BlockHash> SharedRun<'a, H> {
-    // The block of the handle at an index of the index, and its payload, which shares the bytes. The
-    // handles that are decoded are added to `steps`, also where the payload is not made.
+    // The block of the handle at an index of the index, and its payload, which shares the bytes.
+    // The handles that are decoded are added to `steps`, also where the payload is not made.
     fn block_at(&self, index: usize, steps: &mut Steps) -> AllocResult<(DataBlockRef<'a, H>, Slice)>
         requires { index < length (index_in self.now.bytes self.now.handles.index) }
         ensures block { IfOk result (λ d. AtRunHandle self.now index
@@ -60,8 +60,8 @@ impl<'a, H: BlockHash> SharedRun<'a, H> {
     }
 }
 
-// A block that such a scan has opened, and its payload, which the entries share. Clauses see what they
-// see of its iterator.
+// A block that such a scan has opened, and its payload, which the entries share. Clauses see what
+// they see of its iterator.
 #[derive(Drop)]
 struct SharedBlock<'a> {
     iter: Iter<'a>,
@@ -210,16 +210,16 @@ impl<'a, 'k, H: BlockHash> Blocks<SharedBlock<'a>> for Cut<'k, SharedRun<'a, H>>
     ghost laws = { shared_laws };
 }
 
-/// A scan of a sound run whose bytes a [`Slice`] has: makes its entries within a range of user keys, in
-/// order, from both ends in any mixture. Long values, and long keys that are encoded in full, share
-/// the bytes.
+/// A scan of a sound run whose bytes a [`Slice`] has: makes its entries within a range of user
+/// keys, in order, from both ends in any mixture. Long values, and long keys that are encoded in
+/// full, share the bytes.
 ///
 /// A block is opened when it is reached, without a checksum and a check, and those that the index
 /// shows to be outside the range are not opened. At most two blocks are held, one for each end. An
 /// error ends the scan: each later step returns it again.
 ///
-/// Clauses see what they see of a [`RunScan`](super::RunScan), and the error that ended the scan, if one
-/// did.
+/// Clauses see what they see of a [`RunScan`](super::RunScan), and the error that ended the scan,
+/// if one did.
 #[derive(Drop)]
 pub struct SharedScan<'a, 'k, H: BlockHash> {
     cut: Cut<'k, SharedRun<'a, H>>,
@@ -257,7 +257,8 @@ impl<'a, 'k, H: BlockHash> Model for SharedScan<'a, 'k, H> {
 }
 
 impl<'a, 'k, H: BlockHash> SharedScan<'a, 'k, H> {
-    /// Returns what was counted since the scan was made, as [`RunScan::steps`](super::RunScan::steps) does.
+    /// Returns what was counted since the scan was made, as
+    /// [`RunScan::steps`](super::RunScan::steps) does.
     pub fn steps(&self) -> Steps
         ensures heads { result.heads ≡ self.now.scan.counted.heads }
         ensures entries { result.entries ≡ self.now.scan.counted.entries }
@@ -317,7 +318,8 @@ impl<'a, 'k, H: BlockHash> SharedScan<'a, 'k, H> {
 }
 
 impl<'a, H: BlockHash> RunRef<'a, H> {
-    /// Scans all entries, and makes each of them: see [`SharedScan`]. The bytes are those of the run.
+    /// Scans all entries, and makes each of them: see [`SharedScan`]. The bytes are those of the
+    /// run.
     pub fn scan_shared<'k>(&self, bytes: &'a Slice) -> SharedScan<'a, 'k, H>
         requires { bytes.now ≡ self.now.bytes }
         ensures begins { BeginsScan (hashes H.hash64 H.hash128) self.now
@@ -328,7 +330,8 @@ impl<'a, H: BlockHash> RunRef<'a, H> {
     }
 
     /// Scans the entries whose user keys are between two bounds, and makes each of them: see
-    /// [`SharedScan`]. The bytes are those of the run. A range that ends before it starts has no keys.
+    /// [`SharedScan`]. The bytes are those of the run. A range that ends before it starts has no
+    /// keys.
     pub fn scan_range_shared<'k>(
         &self,
         bytes: &'a Slice,

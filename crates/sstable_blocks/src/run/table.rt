@@ -41,8 +41,8 @@ use std::marker::{Model, PhantomData};
 /// kept.
 ///
 /// Clauses see the source, the handles of filter and index, the payload of the filter, if there is
-/// one, the handles of the index and its restart interval. Those kept are always those of the source's bytes, if these
-/// are known.
+/// one, the handles of the index and its restart interval. Those kept are always those of the
+/// source's bytes, if these are known.
 #[derive(Drop)]
 pub struct Table<H: BlockHash, S: FrameSource> {
     source: S,
@@ -270,8 +270,9 @@ impl<H: BlockHash, S: FrameSource> Table<H, S> {
     }
 
     /// Reads the data block of the handle at an index of the index. Its frame is verified and
-    /// checked. Decodes the handles of the index's restart interval up to this one, and adds them to
-    /// `steps`, also where an error is returned; what a caller examines in the block is not counted.
+    /// checked. Decodes the handles of the index's restart interval up to this one, and adds them
+    /// to `steps`, also where an error is returned; what a caller examines in the block is not
+    /// counted.
     ///
     /// # Errors
     ///
@@ -345,7 +346,8 @@ impl<H: BlockHash, S: FrameSource> Table<H, S> {
         ensures source { UsesSource S.bytes S.failures S.reads S.is_reliable
             (AsksIfOk (λ _. filter_frames handles.filter + 1)) source (source_after result)
             (error_after result) }
-        ensures asked { AsksAs S.bytes S.failures S.reads source (source_after result) (error_after result)
+        ensures asked { AsksAs S.bytes S.failures S.reads source (source_after result) (error_after
+            result)
             (λ all. open_frames (hashes H.hash64 H.hash128) all handles) }
         ensures exact { IfSome (S.bytes source) (λ all. MatchResult result
             (λ t. kept_of (hashes H.hash64 H.hash128) all handles ≡ Ok (t.filter, t.index))
@@ -378,7 +380,8 @@ impl<H: BlockHash, S: SizedSource> Table<H, S> {
         ensures source { UsesSource S.bytes S.failures S.reads S.is_reliable
             (AsksIfOk (λ t. filter_frames t.handles.filter + 2)) source (source_after result)
             (error_after result) }
-        ensures asked { AsksAs S.bytes S.failures S.reads source (source_after result) (error_after result)
+        ensures asked { AsksAs S.bytes S.failures S.reads source (source_after result) (error_after
+            result)
             (λ all. file_frames (hashes H.hash64 H.hash128) all) }
         ensures exact { IfSome (S.bytes source) (λ all. MatchResult result
             (λ t. kept_by_footer (hashes H.hash64 H.hash128) all

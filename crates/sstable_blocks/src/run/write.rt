@@ -5,7 +5,8 @@ ghost use Rattle.sst_block_core.specs.Kind.{IsOrdered};
 ghost use Rattle.sstable_blocks.specs.Blocks.{CutsFit, blocks_of};
 ghost use Rattle.sstable_blocks.specs.Run.{form, IsWritable, RunFits};
 ghost use Rattle.sstable_blocks.specs.RunReading.{hashes};
-ghost use Rattle.sstable_blocks.specs.Writing.{AppendsLayout, AppendsSound, IsWriteRefusal, UsesWriter};
+ghost use Rattle.sstable_blocks.specs.Writing.{AppendsLayout, AppendsSound, IsWriteRefusal};
+ghost use Rattle.sstable_blocks.specs.Writing.{UsesWriter};
 
 use super::laws::blocks_are_the_list;
 use super::run_core::RunCore;
@@ -30,9 +31,9 @@ pub fn cuts_fit(len: usize, cuts: &[usize]) -> bool
     true
 }
 
-/// Writes a run: an ordered list of entries or of views, at least one, cut into blocks where `cuts` says. The
-/// frames of the blocks come first, then that of the index, then, if there are bits for it, that of
-/// the filter.
+/// Writes a run: an ordered list of entries or of views, at least one, cut into blocks where `cuts`
+/// says. The frames of the blocks come first, then that of the index, then, if there are bits for
+/// it, that of the filter.
 ///
 /// Both intervals and the denominator of the ratio are at least 1. See [`cuts_fit`] and
 /// `DataBlock::is_ordered`.

@@ -211,8 +211,8 @@ fn header_with(block_type: BlockType, fields: &[u8]) -> Header
     }
 }
 
-// The header's own checksum, of the 29 bytes before it: one hash of an array, since a stream of so few
-// bytes costs more than their hash.
+// The header's own checksum, of the 29 bytes before it: one hash of an array, since a stream of so
+// few bytes costs more than their hash.
 fn front_sum<H: BlockHash>(block_type: BlockType, fields: &[u8]) -> u32
     requires { length fields.now ≡ 24 }
     ensures { result ≡ H.hash128 (magic ++ (block_type_byte block_type ∷ fields.now)) % 2 ^ 32 }

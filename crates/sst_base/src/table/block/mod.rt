@@ -5,7 +5,8 @@ ghost use Rattle.std.specs.Prelude.{drop, take, IfOk, IfErr, IsErrOf, MatchResul
 ghost use Rattle.std.specs.Io.KnownBytes.{Appends};
 ghost use Rattle.sst_base.specs.Block.{BlockParts};
 ghost use Rattle.sst_base.specs.Bytes.{IsBytes};
-ghost use Rattle.sst_base.specs.Frame.{header_for, frame_block, frame, frame_at, frame_in, block_at};
+ghost use Rattle.sst_base.specs.Frame.{header_for, frame_block, frame, frame_at, frame_in};
+ghost use Rattle.sst_base.specs.Frame.{block_at};
 ghost use Rattle.sst_base.specs.Frame.{verified_block, frame_in_file};
 ghost use Rattle.sst_base.specs.declared.table.block.block_type.BlockType.{BlockType};
 ghost use Rattle.sst_base.specs.Inputs.{ReadsAllocating, Gives, GivesOrFails};

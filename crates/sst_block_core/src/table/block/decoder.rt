@@ -17,7 +17,8 @@ ghost use Rattle.sst_block_core.specs.Body.{place_offset};
 ghost use Rattle.sst_block_core.specs.Pointers.{head_count};
 ghost use Rattle.sst_block_core.specs.Intervals.{Splits, digits, seek_picked};
 ghost use Rattle.sst_block_core.specs.ListSteps.{scan_gives_first, scan_gives_last};
-ghost use Rattle.sst_block_core.specs.Window.{Window, Answer, found, items_left, whole, picked_head};
+ghost use Rattle.sst_block_core.specs.Window.{Window, Answer, found, items_left, whole};
+ghost use Rattle.sst_block_core.specs.Window.{picked_head};
 ghost use Rattle.sst_block_core.specs.Scan.{GivesScanned};
 ghost use Rattle.sst_block_core.specs.Backs.{GivesNextBack, seek_upper_picked};
 ghost use Rattle.sst_block_core.specs.Trailer.{trailer_in};
@@ -123,9 +124,9 @@ pub trait Decodable<Parsed: ParsedItem<Self>>: BlockItem + Sized {
 
     /// Decodes the item in truncated form at an offset, after a head whose key begins at
     /// `base_key_offset`; the second result is where the form ends. Returns `None` at the marker,
-    /// and wherever no truncated form is encoded. How long the head's key is, is not tested: the form is
-    /// read as one after a head whose key ends with the shared prefix. Counts an entry where it
-    /// returns an item.
+    /// and wherever no truncated form is encoded. How long the head's key is, is not tested: the
+    /// form is read as one after a head whose key ends with the shared prefix. Counts an entry
+    /// where it returns an item.
     fn parse_truncated(
         payload: &[u8],
         offset: usize,

@@ -2,7 +2,8 @@
 ghost use Rattle.std.specs.Prelude.{◌≡◌, ◌+◌, ◌*◌, ◌≤◌, length};
 ghost use Rattle.sst_base.specs.Counted.{CountsBetween};
 ghost use Rattle.sst_block_core.specs.Backs.{GivesNextBack};
-ghost use Rattle.sst_block_core.specs.Ends.{AreBlockEnds, some_between, window_between, scan_between};
+ghost use Rattle.sst_block_core.specs.Ends.{AreBlockEnds, some_between, window_between};
+ghost use Rattle.sst_block_core.specs.Ends.{scan_between};
 ghost use Rattle.sst_block_core.specs.Intervals.{digits};
 ghost use Rattle.sst_block_core.specs.Kind.{IsOrdered};
 ghost use Rattle.sst_block_core.specs.Pointers.{head_count};

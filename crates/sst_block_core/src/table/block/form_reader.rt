@@ -1,5 +1,6 @@
 //! The one way from the bytes of a block to its heads and items.
-ghost use Rattle.std.specs.Prelude.{◌≡◌, ℕ, ◌+◌, ◌≤◌, ◌<◌, ◌++◌, List, [], ◌∷◌, length, drop, slice_get, Some};
+ghost use Rattle.std.specs.Prelude.{◌≡◌, ℕ, ◌+◌, ◌≤◌, ◌<◌, ◌++◌, List, [], ◌∷◌, length, drop};
+ghost use Rattle.std.specs.Prelude.{slice_get, Some};
 ghost use Rattle.std.specs.Prelude.{IsSome, min};
 ghost use Rattle.std.specs.Ordering.{nat_cmp};
 ghost use Rattle.std.specs.Cmp.Lexicographic.{slice_cmp};

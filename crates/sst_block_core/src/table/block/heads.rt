@@ -1,14 +1,16 @@
 //! Tables of the heads of a block.
 ghost use Rattle.std.specs.Prelude.{◌≡◌, ◌≢◌, ◌+◌, ◌*◌, ◌/◌, ◌^◌, ◌≤◌, ◌<◌, ◌++◌};
 ghost use Rattle.std.specs.Prelude.{[], ◌∷◌, List, ℕ, length, drop, nat_lt, min, if◌then◌else◌};
-ghost use Rattle.std.specs.Prelude.{slice_get, Some, None, slice_index, nat_eq, IfOk, IsOkUnless, IfSome};
+ghost use Rattle.std.specs.Prelude.{slice_get, Some, None, slice_index, nat_eq, IfOk, IsOkUnless};
+ghost use Rattle.std.specs.Prelude.{IfSome};
 ghost use Rattle.std.specs.Ordering.{nat_cmp, ordering_then};
 ghost use Rattle.std.specs.Cmp.Lexicographic.{slice_cmp};
 ghost use Rattle.std.specs.declared.cmp.Ordering.TheVariants.{Less, Equal};
 ghost use Rattle.sst_base.specs.Counted.{CountsExactly, CountsBetween};
 ghost use Rattle.sst_base.specs.Order.{versions_cmp};
 ghost use Rattle.sst_block_core.specs.Found.{IsRange, range_bytes};
-ghost use Rattle.sst_block_core.specs.Heads.{front, key_in, Begins, IsHeadTable, IsHeadPassedBit, head_of};
+ghost use Rattle.sst_block_core.specs.Heads.{front, key_in, Begins, IsHeadTable, IsHeadPassedBit};
+ghost use Rattle.sst_block_core.specs.Heads.{head_of};
 ghost use Rattle.sst_block_core.specs.Heads.{heads_before, KeepsPrefixAndRoom};
 ghost use Rattle.sst_block_core.specs.Intervals.{digits};
 ghost use Rattle.sst_block_core.specs.Passes.{last_passed};
@@ -133,8 +135,8 @@ impl HeadTable {
         HeadTable::with_prefix(alloc, count, SliceIndexes(0, 0))
     }
 
-    /// Makes an empty table with capacity for this many heads, and with this range of the payload as
-    /// the prefix of all their keys. The longer it is, the more the fronts decide.
+    /// Makes an empty table with capacity for this many heads, and with this range of the payload
+    /// as the prefix of all their keys. The longer it is, the more the fronts decide.
     ///
     /// # Errors
     ///
@@ -199,7 +201,8 @@ impl HeadTable {
     pub fn push(&mut self, payload: &[u8], offset: usize, seqno: SeqNo, key: SliceIndexes)
         requires room { length self.old.heads < self.old.room }
         requires range { IsRange payload.now key }
-        requires begins { Begins (range_bytes payload.now self.old.prefix) (range_bytes payload.now key) }
+        requires begins { Begins (range_bytes payload.now self.old.prefix) (range_bytes payload.now
+            key) }
         requires order { IfSome (last_passed self.old.heads)
             (λ (last : Head). versions_cmp (key_in payload.now) (λ (h : Head). h.seqno)
             (head_of offset seqno key) last ≢ Less) }
@@ -275,8 +278,8 @@ impl HeadTable {
         )
     }
 
-    // Returns 1 if a bound passes head j, and else 0. Its needle begins with the prefix, and has this
-    // rest after it, whose front without the last bit is `number`. Counts a head.
+    // Returns 1 if a bound passes head j, and else 0. Its needle begins with the prefix, and has
+    // this rest after it, whose front without the last bit is `number`. Counts a head.
     #[inline(always)]
     fn passes(
         &self,
@@ -293,7 +296,8 @@ impl HeadTable {
             → slice_cmp nat_cmp (range_bytes payload.now self.now.prefix ++ s) bound.now.needle.now
             ≡ slice_cmp nat_cmp s rest.now }
         requires number { number ≡ front rest.now / 2 }
-        ensures tells { IsHeadPassedBit payload.now bound.now.needle.now bound.now.from self.now.heads j
+        ensures tells { IsHeadPassedBit payload.now bound.now.needle.now bound.now.from
+            self.now.heads j
             result }
         ensures counts { CountsExactly steps.old steps.new 1 0 }
     {

@@ -386,8 +386,8 @@ impl<'a, Item: Decodable<Parsed>, Parsed: ParsedItem<Item>> Intervals<'a, Item, 
 }
 
 impl<'a, Item: Decodable<Parsed>, Parsed: ParsedItem<Item> + Drop> Intervals<'a, Item, Parsed> {
-    // Returns the range of the longest prefix that the keys of the first and of the last head share,
-    // with which all between them begin, as they are in order.
+    // Returns the range of the longest prefix that the keys of the first and of the last head
+    // share, with which all between them begin, as they are in order.
     fn shared_prefix(&mut self) -> SliceIndexes
         requires { IsOrdered Item.kind self.old.list.items }
         ensures list { self.new.list ≡ self.old.list }

@@ -17,7 +17,8 @@ pub type KeyParts<'a> = (&'a [u8], &'a [u8]);
 fn compare_longer(longer: KeyParts<'_>, shorter: KeyParts<'_>) -> Ordering
     requires { length shorter.0.now ≤ length longer.0.now }
     ensures { result
-        ≡ slice_cmp nat_cmp (longer.entry.0.now ++ longer.entry.1.now) (shorter.entry.0.now ++ shorter.entry.1.now) }
+        ≡ slice_cmp nat_cmp (longer.entry.0.now ++ longer.entry.1.now) (shorter.entry.0.now ++
+        shorter.entry.1.now) }
 {
     let (front, more) = longer.0.split_at(shorter.0.len());
     match compare_bytes(front, shorter.0) {
@@ -29,7 +30,8 @@ fn compare_longer(longer: KeyParts<'_>, shorter: KeyParts<'_>) -> Ordering
 /// Compares two keys bytewise.
 pub fn compare_parts(key: KeyParts<'_>, other: KeyParts<'_>) -> Ordering
     ensures { result
-        ≡ slice_cmp nat_cmp (key.entry.0.now ++ key.entry.1.now) (other.entry.0.now ++ other.entry.1.now) }
+        ≡ slice_cmp nat_cmp (key.entry.0.now ++ key.entry.1.now) (other.entry.0.now ++
+        other.entry.1.now) }
 {
     if key.0.len() < other.0.len() {
         compare_longer(other, key).reverse()
@@ -76,7 +78,8 @@ fn shared_longer(longer: KeyParts<'_>, shorter: KeyParts<'_>) -> usize
 #[tactic(auto, using(crate::proofs::Writing::SharedParts::shared_turned))]
 fn shared_apart(key: KeyParts<'_>, other: KeyParts<'_>) -> usize
     ensures { result
-        ≡ shared_prefix_length (key.entry.0.now ++ key.entry.1.now) (other.entry.0.now ++ other.entry.1.now) }
+        ≡ shared_prefix_length (key.entry.0.now ++ key.entry.1.now) (other.entry.0.now ++
+        other.entry.1.now) }
 {
     if key.0.len() < other.0.len() {
         shared_longer(other, key)
@@ -89,7 +92,8 @@ fn shared_apart(key: KeyParts<'_>, other: KeyParts<'_>) -> usize
 #[inline(always)]
 pub fn shared_len(key: KeyParts<'_>, other: KeyParts<'_>) -> usize
     ensures { result
-        ≡ shared_prefix_length (key.entry.0.now ++ key.entry.1.now) (other.entry.0.now ++ other.entry.1.now) }
+        ≡ shared_prefix_length (key.entry.0.now ++ key.entry.1.now) (other.entry.0.now ++
+        other.entry.1.now) }
 {
     if key.0.is_empty() && other.0.is_empty() {
         return longest_shared_prefix_length(key.1, other.1);

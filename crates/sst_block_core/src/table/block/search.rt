@@ -108,7 +108,8 @@ impl<'a, Item: Decodable<Parsed>, Parsed: ParsedItem<Item> + Drop> Intervals<'a,
         ensures is_place { IsPlace Item.kind self.old.list result.0 }
         ensures candidate { MatchOption result.1 (result.0.index ≡ end)
             (λ l.
-            IsCandidateAt Parsed.item_of Parsed.is_found Item.kind bound.now.needle.now self.old.list
+            IsCandidateAt Parsed.item_of Parsed.is_found Item.kind bound.now.needle.now
+            self.old.list
             result.0.index l
             × (result.0.index < end)) }
         ensures counts { CountsBetween self.old.steps self.new.steps (0, found_item result.1)
@@ -171,7 +172,8 @@ impl<'a, Item: Decodable<Parsed>, Parsed: ParsedItem<Item> + Drop> Intervals<'a,
         ensures candidate { MatchOption result.1
             (result.0.index ≡ min (length self.old.list.items) ((j + 1) * self.old.list.interval))
             (λ l.
-            IsCandidateAt Parsed.item_of Parsed.is_found Item.kind bound.now.needle.now self.old.list
+            IsCandidateAt Parsed.item_of Parsed.is_found Item.kind bound.now.needle.now
+            self.old.list
             result.0.index l
             × (result.0.index
             < min (length self.old.list.items) ((j + 1) * self.old.list.interval))) }

@@ -1,6 +1,7 @@
 //! Data blocks whose payload is borrowed.
 ghost use Rattle.std.specs.Prelude.{◌≡◌, ℕ, ◌*◌, ◌^◌, ◌<◌, ◌≤◌, List, length, map, None, Some};
-ghost use Rattle.std.specs.Prelude.{IfOk, IfSome, IsOkUnless, is_some, true, false, ◌==◌, if◌then◌else◌};
+ghost use Rattle.std.specs.Prelude.{IfOk, IfSome, IsOkUnless, is_some, true, false, ◌==◌};
+ghost use Rattle.std.specs.Prelude.{if◌then◌else◌};
 ghost use Rattle.sst_base.specs.Counted.{IsZero};
 ghost use Rattle.sst_base.specs.Entry.{Entry, IsEntry, plain};
 ghost use Rattle.sst_block_core.specs.Body.{place_offset};

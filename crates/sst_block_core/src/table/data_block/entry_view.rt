@@ -1,5 +1,6 @@
 //! Entries that borrow the bytes of their block, and the iterator over them.
-ghost use Rattle.std.specs.Prelude.{◌≡◌, ◌↔◌, ◌++◌, IfOk, IfSome, IsOk, IsOkUnless, IsSome, IsTrue, length, refl, take, ◌≤◌};
+ghost use Rattle.std.specs.Prelude.{◌≡◌, ◌↔◌, ◌++◌, IfOk, IfSome, IsOk, IsOkUnless, IsSome, IsTrue};
+ghost use Rattle.std.specs.Prelude.{length, refl, take, ◌≤◌};
 ghost use Rattle.std.specs.Ordering.{nat_cmp};
 ghost use Rattle.std.specs.Cmp.Lexicographic.{slice_cmp};
 ghost use Rattle.std.specs.Iterator.{YieldsFirst, YieldsLast, item_count};
@@ -36,9 +37,9 @@ const MAX_VALUE_LEN: usize = 4_294_967_295;
 /// memory. Clauses see the entry.
 #[derive(Drop)]
 pub struct EntryView<'a> {
-    // Begins with the bytes that the key shares with the head of its restart interval, none where it
-    // is held whole. Here and below, of an entry of a block, what follows in the payload is lent too:
-    // a few bytes are copied faster where more follow.
+    // Begins with the bytes that the key shares with the head of its restart interval, none where
+    // it is held whole. Here and below, of an entry of a block, what follows in the payload is lent
+    // too: a few bytes are copied faster where more follow.
     prefix: &'a [u8],
     // Begins with the key's own bytes.
     rest: &'a [u8],

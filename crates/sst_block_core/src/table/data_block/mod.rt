@@ -110,10 +110,10 @@ impl<H: BlockHash> DataBlock<H> {
         None
     }
 
-    /// Encodes a non-empty ordered list of entries, or of views of entries, into an empty vector, in
-    /// restart intervals of at least one entry, with the number of buckets that the ratio gives. The
-    /// denominator is at least 1. With more than 254 heads no buckets are stored. Of views no entry
-    /// is made: keys and values are copied once, into the block.
+    /// Encodes a non-empty ordered list of entries, or of views of entries, into an empty vector,
+    /// in restart intervals of at least one entry, with the number of buckets that the ratio gives.
+    /// The denominator is at least 1. With more than 254 heads no buckets are stored. Of views no
+    /// entry is made: keys and values are copied once, into the block.
     ///
     /// # Errors
     ///
@@ -146,8 +146,8 @@ impl<H: BlockHash> DataBlock<H> {
         encode_all::<Item, H>(writer, items, restart_interval, ratio)
     }
 
-    /// Encodes a non-empty ordered list of entries, or of views, as [`DataBlock::encode_into`] does,
-    /// into a vector of its own.
+    /// Encodes a non-empty ordered list of entries, or of views, as [`DataBlock::encode_into`]
+    /// does, into a vector of its own.
     ///
     /// # Errors
     ///

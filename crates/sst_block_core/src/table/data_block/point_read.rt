@@ -1,5 +1,6 @@
 //! The look-up of a point read.
-ghost use Rattle.std.specs.Prelude.{◌≡◌, ◌+◌, ◌<◌, ◌≤◌, IfSome, IfOk, IsOk, IsSome, OnErr, IsOkUnless, length, map};
+ghost use Rattle.std.specs.Prelude.{◌≡◌, ◌+◌, ◌<◌, ◌≤◌, IfSome, IfOk, IsOk, IsSome, OnErr};
+ghost use Rattle.std.specs.Prelude.{IsOkUnless, length, map};
 ghost use Rattle.std.specs.Option.{option_map};
 ghost use Rattle.sst_base.specs.Counted.{found_item, IsZero, CountsBetween};
 ghost use Rattle.sst_base.specs.Entry.{IsShort, plain};

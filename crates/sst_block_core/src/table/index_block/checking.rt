@@ -74,8 +74,8 @@ impl Checkable<IndexBlockParsedItem> for KeyedBlockHandle {
 
 impl<'a> IndexBlockRef<'a> {
     /// Reads any bytes as an index block, if they are the encoding of some ordered, non-empty list
-    /// of handles at an interval from 1 to 255, each of whose blocks ends below 2^64. Makes no table
-    /// of the heads. Takes no memory.
+    /// of handles at an interval from 1 to 255, each of whose blocks ends below 2^64. Makes no
+    /// table of the heads. Takes no memory.
     ///
     /// # Errors
     ///

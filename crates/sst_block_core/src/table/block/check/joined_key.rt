@@ -1,5 +1,6 @@
 //! A key of a body, joined of its prefix and the bytes after it.
-ghost use Rattle.std.specs.Prelude.{◌≡◌, ◌+◌, ◌-◌, ◌≤◌, ◌++◌, ℕ, List, length, take, drop, OnSome, IsSome};
+ghost use Rattle.std.specs.Prelude.{◌≡◌, ◌+◌, ◌-◌, ◌≤◌, ◌++◌, ℕ, List, length, take, drop, OnSome};
+ghost use Rattle.std.specs.Prelude.{IsSome};
 ghost use Rattle.sst_block_core.specs.Found.{IsRange};
 ghost use Rattle.sst_block_core.specs.KeyRanges.{key_by, IsKeyRanges, HasFront};
 

@@ -272,10 +272,10 @@ fn pass_payload<Item: Checkable<Parsed>, Parsed: ParsedItem<Item> + Drop, Sink: 
 ///
 /// # Errors
 ///
-/// `Error::BadEntry` if the body is not as many forms as the trailer says, and nothing else;
-/// that of [`Checkable::unfit`] if an item does not fit; `Error::OutOfOrder` if an item sorts before
-/// its predecessor; `Error::BadIndex` if a pointer is not the offset of its head, or the pointer
-/// width is not the least that serves. The first of these that holds.
+/// `Error::BadEntry` if the body is not as many forms as the trailer says, and nothing else; that
+/// of [`Checkable::unfit`] if an item does not fit; `Error::OutOfOrder` if an item sorts before its
+/// predecessor; `Error::BadIndex` if a pointer is not the offset of its head, or the pointer width
+/// is not the least that serves. The first of these that holds.
 pub(crate) fn check_items_with<
     Item: Checkable<Parsed>,
     Parsed: ParsedItem<Item> + Drop,
@@ -315,10 +315,10 @@ pub(crate) fn check_items_with<
 ///
 /// # Errors
 ///
-/// `Error::BadEntry` if the body is not as many forms as the trailer says, and nothing else;
-/// that of [`Checkable::unfit`] if an item does not fit; `Error::OutOfOrder` if an item sorts before
-/// its predecessor; `Error::BadIndex` if a pointer is not the offset of its head, or the pointer
-/// width is not the least that serves. The first of these that holds.
+/// `Error::BadEntry` if the body is not as many forms as the trailer says, and nothing else; that
+/// of [`Checkable::unfit`] if an item does not fit; `Error::OutOfOrder` if an item sorts before its
+/// predecessor; `Error::BadIndex` if a pointer is not the offset of its head, or the pointer width
+/// is not the least that serves. The first of these that holds.
 pub fn check_items<Item: Checkable<Parsed>, Parsed: ParsedItem<Item> + Drop>(
     payload: &[u8],
     t: &TrailerNumbers,

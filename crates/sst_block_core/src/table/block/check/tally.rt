@@ -5,7 +5,8 @@ ghost use Rattle.std.specs.Prelude.{◌≤◌, IsTrue, IfOk, IfSome, OnSome, IsO
 ghost use Rattle.std.specs.Prelude.{None, take, drop};
 ghost use Rattle.sst_block_core.specs.Found.{IsRange};
 ghost use Rattle.sst_block_core.specs.KeyRanges.{key_by, IsKeyRanges};
-ghost use Rattle.sst_block_core.specs.Passes.{IsHashed, IsBegun, HasTallied, joined_key, with_bucket};
+ghost use Rattle.sst_block_core.specs.Passes.{IsHashed, IsBegun, HasTallied, joined_key};
+ghost use Rattle.sst_block_core.specs.Passes.{with_bucket};
 
 use crate::block_item::BlockItem;
 use crate::table::block::check::joined_key::JoinedKey;
