@@ -16,7 +16,7 @@ use crate::views::view_scans_of;
 use sst_merge::{Compact, Head, Merge, Ranked, Sizes, Source, write_table};
 use sstable_blocks::run::{RunRef, Scan};
 use sstable_blocks::{
-    AsEntry, HashRatio, InternalValue, MemorySource, RunConfig, RunHandles, Slice,
+    AsEntry, HashRatio, InternalValue, MemorySource, RunConfig, RunHandles, RunWriter, Slice,
 };
 use std::alloc::Global;
 
@@ -203,7 +203,7 @@ fn table_len<T: Ranked + AsEntry + Drop, I: Source<T> + Drop>(
 {
     let mut head = Head::new(alloc, source).ok()?;
     let bytes = Vec::new(alloc);
-    match &write_table::<Hash, T, I, Vec<u8>>(alloc, &mut head, bytes, config, SIZES) {
+    match &write_table::<RunWriter<Hash, Vec<u8>>, T, I>(alloc, &mut head, bytes, config, SIZES) {
         Ok((Some(_), bytes)) => Some(bytes.len() as u64),
         _ => None,
     }

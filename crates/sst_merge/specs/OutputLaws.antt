@@ -6,11 +6,11 @@ use Rattle.std.specs.List.{AllZip}
 use Rattle.std.specs.Option.{option_map, IfSome}
 use Rattle.sstable_blocks.specs.Prelude.{Entry}
 use Rattle.sstable_blocks.specs.Blocks.{joined}
-use Rattle.sstable_blocks.specs.Run.{Form}
 use Rattle.sstable_blocks.specs.declared.run.RunHandles.{RunHandles}
 use Rattle.sst_merge.specs.Outputs.{Output, IsOutputOf, IsSized, AreSized, entries_of, AreWritten}
 use Rattle.sst_merge.specs.TableLaws.{taken_none, taken_both}
 use Rattle.sst_merge.specs.SizeLaws.{apart_part}
+use Rattle.sstable_blocks.specs.TableKinds.{TableKind}
 use Rattle.sst_merge.specs.Tables.{IsApart, IsShortest, IsTableOf}
 use Rattle.sst_merge.specs.Sources.{IsTaken}
 use Rattle.sst_merge.specs.declared.writing.Sizes.{Sizes}
@@ -83,28 +83,28 @@ known_before P before None xs taken h = tt
 known_before P None (Some rest) xs taken h = absurd (cc)
 known_before P (Some ys) (Some rest) xs taken h = h
 
-table_sized : (f : Form) (sizes : Sizes) (start bytes : Option (List ℕ)) (h : RunHandles) (before after : Option (List Entry)) → (t : IsTableOf f sizes start bytes h before after) → IsSized f.config.restart_interval sizes after t.blocks
-table_sized f sizes start bytes h before after t = record {
+table_sized : (k : TableKind) (sizes : Sizes) (start bytes : Option (List ℕ)) (h : RunHandles) (before after : Option (List Entry)) → (t : IsTableOf k sizes start bytes h before after) → IsSized k.interval sizes after t.blocks
+table_sized k sizes start bytes h before after t = record {
   filled = t.filled;
   reaches = t.reaches;
-  shortest = known_before (IsShortest f.config.restart_interval sizes.table t.blocks) before after (joined t.blocks) t.taken t.shortest;
+  shortest = known_before (IsShortest k.interval sizes.table t.blocks) before after (joined t.blocks) t.taken t.shortest;
 }
 
 -- no table was written yet
-pub none_written : (f : Form) (sizes : Sizes) (start : Option (List ℕ)) (s : Option (List Entry)) (tables : List Output) → AreWritten f sizes start s s tables tables
-none_written f sizes start s tables = record { outputs = []; runs = []; grown = sym (append-nil tables); each = tt; taken = taken_none s; apart = none_apart s; sized = tt }
+pub none_written : (k : TableKind) (sizes : Sizes) (start : Option (List ℕ)) (s : Option (List Entry)) (tables : List Output) → AreWritten k sizes start s s tables tables
+none_written k sizes start s tables = record { outputs = []; runs = []; grown = sym (append-nil tables); each = tt; taken = taken_none s; apart = none_apart s; sized = tt }
 
 -- one table more
-pub one_written : (f : Form) (sizes : Sizes) (start : Option (List ℕ)) (before mid after : Option (List Entry)) (old now new : List Output) (o : Output) → AreWritten f sizes start before mid old now → IsTableOf f sizes start o.bytes o.handles mid after → new ≡ now ++ o ∷ []
-    → AreWritten f sizes start before after old new
-one_written f sizes start before mid after old now new o w t e = record {
+pub one_written : (k : TableKind) (sizes : Sizes) (start : Option (List ℕ)) (before mid after : Option (List Entry)) (old now new : List Output) (o : Output) → AreWritten k sizes start before mid old now → IsTableOf k sizes start o.bytes o.handles mid after → new ≡ now ++ o ∷ []
+    → AreWritten k sizes start before after old new
+one_written k sizes start before mid after old now new o w t e = record {
   outputs = w.outputs ++ o ∷ [];
   runs = w.runs ++ t.blocks ∷ [];
   grown = e ∙ ap (λ xs. xs ++ o ∷ []) w.grown ∙ append_assoc old w.outputs (o ∷ []);
-  each = zip_push (IsOutputOf f start) w.outputs w.runs o t.blocks w.each t.layout;
+  each = zip_push (IsOutputOf k start) w.outputs w.runs o t.blocks w.each t.layout;
   taken = taken_both before mid after (entries_of w.runs) (joined t.blocks) w.taken t.taken ∙ ap (λ xs. option_map (λ rest. xs ++ rest) after) (sym (entries_push w.runs t.blocks));
   apart = apart_after w.runs t.blocks mid after t.taken t.some w.apart t.apart;
-  sized = sized_push f.config.restart_interval sizes mid after w.runs t.blocks t.taken w.sized (table_sized f sizes start o.bytes o.handles mid after t);
+  sized = sized_push k.interval sizes mid after w.runs t.blocks t.taken w.sized (table_sized k sizes start o.bytes o.handles mid after t);
 }
 
 nothing_left : (s : Option (List Entry)) → IfSome s (λ xs. xs ≡ []) → (t : Option (List Entry)) (xs : List Entry) → t ≡ option_map (λ rest. xs ++ rest) s → s ≡ option_map (λ _. []) t
@@ -114,8 +114,8 @@ nothing_left (Some ys) h None xs e = absurd (cc)
 nothing_left (Some ys) h (Some zs) xs e = ap Some h
 
 -- all was written where nothing is left
-pub all_written : (f : Form) (sizes : Sizes) (start : Option (List ℕ)) (before after : Option (List Entry)) (old new : List Output) → AreWritten f sizes start before after old new → IfSome after (λ xs. xs ≡ []) → AreWritten f sizes start before (option_map (λ _. []) before) old new
-all_written f sizes start before after old new w h = subst (λ s. AreWritten f sizes start before s old new) (nothing_left after h before (entries_of w.runs) w.taken) w
+pub all_written : (k : TableKind) (sizes : Sizes) (start : Option (List ℕ)) (before after : Option (List Entry)) (old new : List Output) → AreWritten k sizes start before after old new → IfSome after (λ xs. xs ≡ []) → AreWritten k sizes start before (option_map (λ _. []) before) old new
+all_written k sizes start before after old new w h = subst (λ s. AreWritten k sizes start before s old new) (nothing_left after h before (entries_of w.runs) w.taken) w
 
 -- whether what is left is known does not depend on how its list is changed
 pub none_after : {X Y Z : Type 0} (f : List X → List Y) (o : Option (List X)) → ◌≡◌ {A = Option (List Z)} (option_map (λ _. []) (option_map f o)) (option_map (λ _. []) o)

@@ -5,10 +5,10 @@ use Rattle.std.specs.List.{sum_by, AllByRecursion}
 use Rattle.sstable_blocks.specs.Prelude.{Entry, body, entries, IsOrdered}
 use Rattle.sstable_blocks.specs.Results.{Error, Io, OutOfOrder, TooLong}
 use Rattle.sstable_blocks.specs.Blocks.{joined}
-use Rattle.sstable_blocks.specs.Run.{Form, RunFits, block_frames}
-use Rattle.sstable_blocks.specs.Writing.{AppendsLayout, Follows, FrameFits, Writing}
+use Rattle.sstable_blocks.specs.Writing.{Follows}
 use Rattle.sstable_blocks.specs.declared.run.RunHandles.{RunHandles}
 use Rattle.sst_merge.specs.Sources.{IsTaken, Left, MayGive, MeetsNoMore}
+use Rattle.sstable_blocks.specs.TableKinds.{TableKind}
 use Rattle.sst_merge.specs.declared.writing.Sizes.{Sizes}
 
 -- the last of these entries and the first one after them, if both are there, have different user keys
@@ -54,48 +54,42 @@ pub record TakesBlock {X : Type 0} (entry : X → Entry) (r size : ℕ) (before 
   pub ended : after.ended ≡ before.ended
   pub no_more : MeetsNoMore before after
 
--- a writer of runs accepted one more block, of at least one entry
-pub record AddsBlock {W : Type 0} (old new : Writing W) (block : List Entry) : Type 0 where
-  pub blocks : new.blocks ≡ old.blocks ++ block ∷ []
-  pub accepting : new.refusal ≡ None
-  pub some : 1 ≤ length block
+-- a block that was taken is not the next one of a table: the blocks do not fit with it, or it is not in order
+abbrev pub IsNoBlock : TableKind → List (List Entry) → List Entry → Error → Type 0
+IsNoBlock t blocks block e = ((e ≡ TooLong) × (t.fits (blocks ++ block ∷ []) → ⊥)) ⊎ ((e ≡ OutOfOrder) × (Follows blocks block → ⊥))
 
--- a block that was taken is not the next one of a run: it does not fit after the blocks before, or is not in order
-abbrev pub IsNoBlock : Form → List (List Entry) → List Entry → Error → Type 0
-IsNoBlock f blocks block e = ((e ≡ TooLong) × (FrameFits f (length (block_frames f blocks)) block → ⊥)) ⊎ ((e ≡ OutOfOrder) × (Follows blocks block → ⊥))
+-- why the next block of a table is not written: its source fails, or the writer, or the items taken are no block of it
+abbrev pub MayNotAdd : {X : Type 0} → (Error → Type 0) → Type 0 → (X → Entry) → TableKind → List (List Entry) → ℕ → Left X → List X → Left X → Error → Type 0
+MayNotAdd may_fail writer_fails entry t blocks size before block after e =
+    MayGive may_fail before e ⊎ (((e ≡ Io) × writer_fails) ⊎ (TakesBlock entry t.interval size before block after × IsNoBlock t blocks (map entry block) e))
 
--- why the next block of a run is not written: its source fails, or the writer, or the items taken are no block of it
-abbrev pub MayNotAdd : {X : Type 0} → (Error → Type 0) → Type 0 → (X → Entry) → Form → List (List Entry) → ℕ → ℕ → Left X → List X → Left X → Error → Type 0
-MayNotAdd may_fail writer_fails entry f blocks r size before block after e =
-    MayGive may_fail before e ⊎ (((e ≡ Io) × writer_fails) ⊎ (TakesBlock entry r size before block after × IsNoBlock f blocks (map entry block) e))
-
--- the first entries of a list, cut into blocks by their size, do not fit a run
-pub record IsTooLong (f : Form) (size : ℕ) (given : Option (List Entry)) : Type 0 where
+-- the first entries of a list, cut into blocks by their size, do not fit a table
+pub record IsTooLong (t : TableKind) (size : ℕ) (given : Option (List Entry)) : Type 0 where
   pub blocks : List (List Entry)
   pub rest : Option (List Entry)
   pub taken : IsTaken given (joined blocks) rest
-  pub filled : AllByRecursion (IsFilled f.config.restart_interval size rest) blocks
-  pub long : RunFits f blocks → ⊥
+  pub filled : AllByRecursion (IsFilled t.interval size rest) blocks
+  pub long : t.fits blocks → ⊥
 
 -- a known list is not in order
 abbrev pub IsOutOfOrder : Option (List Entry) → Type 0
 IsOutOfOrder given = IfSome given (λ xs. IsOrdered entries xs → ⊥)
 
--- why the next table of a source is not written: its source fails, or the writer, or the run does not fit, or the
+-- why the next table of a source is not written: its source fails, or the writer, or its blocks do not fit, or the
 -- entries are not in order
-abbrev pub MayNotWrite : {X : Type 0} → (Error → Type 0) → Type 0 → (X → Entry) → Form → ℕ → Left X → Error → Type 0
-MayNotWrite may_fail writer_fails entry f size s e =
-    MayGive may_fail s e ⊎ (((e ≡ Io) × writer_fails) ⊎ (((e ≡ TooLong) × IsTooLong f size (entries_in entry s.list)) ⊎ ((e ≡ OutOfOrder) × IsOutOfOrder (entries_in entry s.list))))
+abbrev pub MayNotWrite : {X : Type 0} → (Error → Type 0) → Type 0 → (X → Entry) → TableKind → ℕ → Left X → Error → Type 0
+MayNotWrite may_fail writer_fails entry t size s e =
+    MayGive may_fail s e ⊎ (((e ≡ Io) × writer_fails) ⊎ (((e ≡ TooLong) × IsTooLong t size (entries_in entry s.list)) ⊎ ((e ≡ OutOfOrder) × IsOutOfOrder (entries_in entry s.list))))
 
--- a writer's known bytes grew by the layout of a run, whose entries were taken from a list. Each block ends with the entry
+-- a writer's known bytes grew by a table, whose entries were taken from a list. Each block ends with the entry
 -- with which it reaches its size, and the table with the first block with which it reaches its own and after which
 -- another user key comes; both may be smaller only where nothing is left
-pub record IsTableOf (f : Form) (sizes : Sizes) (old new : Option (List ℕ)) (handles : RunHandles) (before after : Option (List Entry)) : Type 0 where
+pub record IsTableOf (t : TableKind) (sizes : Sizes) (old new : Option (List ℕ)) (handles : RunHandles) (before after : Option (List Entry)) : Type 0 where
   pub blocks : List (List Entry)
-  pub layout : AppendsLayout f blocks old new handles
+  pub layout : t.appends blocks old new handles
   pub some : 1 ≤ length (joined blocks)
   pub taken : IsTaken before (joined blocks) after
   pub apart : IfSome after (IsApart (joined blocks))
-  pub filled : AllByRecursion (IsFilled f.config.restart_interval sizes.block after) blocks
-  pub reaches : Reaches sizes.table (blocks_len f.config.restart_interval blocks) after
-  pub shortest : IfSome before (λ _. IsShortest f.config.restart_interval sizes.table blocks)
+  pub filled : AllByRecursion (IsFilled t.interval sizes.block after) blocks
+  pub reaches : Reaches sizes.table (blocks_len t.interval blocks) after
+  pub shortest : IfSome before (λ _. IsShortest t.interval sizes.table blocks)

@@ -5,7 +5,6 @@ ghost use Rattle.sst_merge.specs.Compact.{compacted};
 ghost use Rattle.sst_merge.specs.Outputs.{AreWritten, MayFail, MayNotWriteAll};
 ghost use Rattle.sst_merge.specs.Sources.{MayGive};
 ghost use Rattle.sst_merge.specs.Tables.{entries_in};
-ghost use Rattle.sstable_blocks.specs.Run.{form, IsWritable};
 ghost use Rattle.sstable_blocks.specs.Scans.{EndsBy};
 
 use crate::bottom::Bottom;
@@ -15,32 +14,35 @@ use crate::output::Outputs;
 use crate::ranked::Ranked;
 use crate::source::Source;
 use crate::writing::{Sizes, write_table};
-use sstable_blocks::{AsEntry, BlockHash, Result, RunConfig, SeqNo};
+use sstable_blocks::{AsEntry, Result, SeqNo, TableWriter};
 use std::alloc::Global;
 
 // Writes all that is left of a source as tables, where no error ended it.
-fn all_tables<H: BlockHash, T: Ranked + AsEntry + Drop, I: Source<T>, O: Outputs>(
+fn all_tables<
+    K: TableWriter<T, Writer = O::Writer>,
+    T: Ranked + AsEntry + Drop,
+    I: Source<T>,
+    O: Outputs,
+>(
     alloc: Global,
     source: &mut Head<T, I>,
     outputs: &mut O,
-    config: RunConfig,
+    form: K::Form,
     sizes: Sizes,
 ) -> Result<()>
-    requires writable { IsWritable config }
+    requires writable { K.writable form }
     ensures written { OnOk result
-        (AreWritten (form H.hash64 H.hash128 config) sizes O.start
+        (AreWritten (K.kind form) sizes O.start
         (entries_in T.entry source.old.list) (option_map (λ _. []) source.old.list)
         (O.tables outputs.old) (O.tables outputs.new)) }
     ensures ended { OnOk result (source.new.ended ≡ source.old.ended) }
     ensures cause { IfErr result (λ e. MayGive I.may_fail source.old e
-        ⊎ MayNotWriteAll O.may_fail (MayFail O.Writer.never_fails) (form H.hash64 H.hash128 config) sizes.block
+        ⊎ MayNotWriteAll O.may_fail (MayFail O.Writer.never_fails) (K.kind form) sizes.block
         (entries_in T.entry source.old.list) e) }
 {
     while source.peek().is_some() {
         let writer = outputs.open()?;
-        let (table, writer) = write_table::<H, T, I, O::Writer>(
-            alloc, source, writer, config, sizes,
-        )?;
+        let (table, writer) = write_table::<K, T, I>(alloc, source, writer, form, sizes)?;
         let Some(handles) = table else {
             return Ok(());
         };
@@ -56,27 +58,32 @@ fn all_tables<H: BlockHash, T: Ranked + AsEntry + Drop, I: Source<T>, O: Outputs
 /// Those of the source, of the outputs and of [`write_table`]. The tables closed before stay. Each
 /// of them ends the source, since entries may have been taken of it that are in no table: each
 /// later step returns the error again.
-pub fn write_tables<H: BlockHash, T: Ranked + AsEntry + Drop, I: Source<T>, O: Outputs>(
+pub fn write_tables<
+    K: TableWriter<T, Writer = O::Writer>,
+    T: Ranked + AsEntry + Drop,
+    I: Source<T>,
+    O: Outputs,
+>(
     alloc: Global,
     source: &mut Head<T, I>,
     outputs: &mut O,
-    config: RunConfig,
+    form: K::Form,
     sizes: Sizes,
 ) -> Result<()>
-    requires writable { IsWritable config }
+    requires writable { K.writable form }
     ensures written { OnOk result
-        (AreWritten (form H.hash64 H.hash128 config) sizes O.start
+        (AreWritten (K.kind form) sizes O.start
         (entries_in T.entry source.old.list) (option_map (λ _. []) source.old.list)
         (O.tables outputs.old) (O.tables outputs.new)) }
     ensures ended { EndsBy source.old.ended source.new.ended result }
     ensures cause { IfErr result (λ e. MayGive I.may_fail source.old e
-        ⊎ MayNotWriteAll O.may_fail (MayFail O.Writer.never_fails) (form H.hash64 H.hash128 config) sizes.block
+        ⊎ MayNotWriteAll O.may_fail (MayFail O.Writer.never_fails) (K.kind form) sizes.block
         (entries_in T.entry source.old.list) e) }
 {
     if let Some(error) = source.end() {
         return Err(error);
     }
-    match all_tables::<H, T, I, O>(alloc, source, outputs, config, sizes) {
+    match all_tables::<K, T, I, O>(alloc, source, outputs, form, sizes) {
         Ok(()) => Ok(()),
         Err(error) => Err(source.end_with(&error)),
     }
@@ -93,7 +100,7 @@ pub fn write_tables<H: BlockHash, T: Ranked + AsEntry + Drop, I: Source<T>, O: O
 ///
 /// Those of the source, of the outputs and of [`write_table`]. The tables closed before stay.
 pub fn compact_tables<
-    H: BlockHash,
+    K: TableWriter<T, Writer = O::Writer>,
     T: Ranked + AsEntry + Drop,
     I: Source<T> + Drop,
     B: Bottom + Drop,
@@ -104,21 +111,21 @@ pub fn compact_tables<
     snapshots: Vec<SeqNo>,
     bottom: B,
     outputs: &mut O,
-    config: RunConfig,
+    form: K::Form,
     sizes: Sizes,
 ) -> Result<()>
-    requires writable { IsWritable config }
+    requires writable { K.writable form }
     ensures written { OnOk result
-        (AreWritten (form H.hash64 H.hash128 config) sizes O.start
+        (AreWritten (K.kind form) sizes O.start
         (entries_in T.entry
         (option_map (compacted T.entry snapshots.items (B.at_bottom bottom)) (I.left source).list))
         (option_map (λ _. []) (I.left source).list) (O.tables outputs.old) (O.tables outputs.new)) }
     ensures cause { IfErr result (λ e. MayGive I.may_fail (I.left source) e
-        ⊎ MayNotWriteAll O.may_fail (MayFail O.Writer.never_fails) (form H.hash64 H.hash128 config) sizes.block
+        ⊎ MayNotWriteAll O.may_fail (MayFail O.Writer.never_fails) (K.kind form) sizes.block
         (entries_in T.entry (option_map (compacted T.entry snapshots.items (B.at_bottom bottom))
         (I.left source).list)) e) }
 {
     let compacted = Compact::new(source, snapshots, bottom);
     let mut head = Head::new(alloc, compacted)?;
-    write_tables::<H, T, Compact<T, I, B>, O>(alloc, &mut head, outputs, config, sizes)
+    write_tables::<K, T, Compact<T, I, B>, O>(alloc, &mut head, outputs, form, sizes)
 }

@@ -1,18 +1,17 @@
 //! Writing what is left of a source as tables.
 ghost use Rattle.std.specs.Prelude.{◌≡◌, ◌+◌, ◌≤◌, ◌<◌, [], ◌⊎◌, ℕ, false, true};
-ghost use Rattle.std.specs.Prelude.{None, length, map, IfErr, IfOk, OnOk, IfSome, IfNone};
-ghost use Rattle.sstable_blocks.specs.Run.{form, IsWritable};
+ghost use Rattle.std.specs.Prelude.{length, map, IfErr, IfOk, OnOk, IfSome, IfNone};
 ghost use Rattle.sstable_blocks.specs.Scans.{EndsBy};
-ghost use Rattle.sstable_blocks.specs.Writing.{IsSameRun};
 ghost use Rattle.sst_merge.specs.Sources.{MayGive, MeetsNoMore};
-ghost use Rattle.sst_merge.specs.Tables.{AddsBlock, IsApart, IsTableOf, MayNotAdd, MayNotWrite};
+ghost use Rattle.sstable_blocks.specs.TableKinds.{AddsBlock};
+ghost use Rattle.sst_merge.specs.Tables.{IsApart, IsTableOf, MayNotAdd, MayNotWrite};
 ghost use Rattle.sst_merge.specs.Tables.{TakesBlock, block_len, capped, entries_in};
 
 use crate::block_len::form_len;
 use crate::merge::Head;
 use crate::ranked::Ranked;
 use crate::source::Source;
-use sstable_blocks::{AsEntry, BlockHash, Error, Output, Result, RunConfig, RunHandles, RunWriter};
+use sstable_blocks::{AsEntry, Error, Result, RunHandles, TableWriter};
 use std::alloc::Global;
 
 /// How large blocks and tables become, in bytes of entries as they are encoded: of a key that is
@@ -57,35 +56,37 @@ fn fill_block<T: Ranked + AsEntry + Drop, I: Source<T>>(
     Ok(len)
 }
 
-// Writes the next block of a table. Returns its size.
-fn add_block<H: BlockHash, T: Ranked + AsEntry + Drop, I: Source<T>, W: Output>(
+// Writes the next block of a table. Returns the table, and the size of the block.
+fn add_block<K: TableWriter<T>, T: Ranked + AsEntry + Drop, I: Source<T>>(
     alloc: Global,
     source: &mut Head<T, I>,
-    run: &mut RunWriter<H, W>,
+    table: K,
     block: &mut Vec<T>,
     interval: u8,
     size: usize,
-) -> Result<usize>
-    requires accepting { run.old.refusal ≡ None }
-    requires interval { 1 ≤ interval }
-    ensures run { IsSameRun run.old run.new }
-    ensures added { OnOk result (AddsBlock run.old run.new (map T.entry block.new.items)) }
+) -> Result<(K, usize)>
+    requires accepts { K.accepts table }
+    requires interval { interval ≡ (K.kind (K.so_far table).form).interval }
+    requires some { 1 ≤ interval }
+    ensures added { IfOk result
+        (λ r. AddsBlock (K.so_far table) (K.so_far r.0) (map T.entry block.new.items)) }
+    ensures goes_on { IfOk result
+        (λ r. K.accepts r.0 × (K.is_reliable table → K.is_reliable r.0)) }
     ensures taken { OnOk result
         (TakesBlock T.entry interval size source.old block.new.items source.new) }
-    ensures cause { IfErr result (MayNotAdd I.may_fail (W.never_fails run.old.writer → ⊥) T.entry
-        (form H.hash64 H.hash128 run.old.config) run.old.blocks interval size source.old
+    ensures cause { IfErr result (MayNotAdd I.may_fail (K.is_reliable table → ⊥) T.entry
+        (K.kind (K.so_far table).form) (K.so_far table).blocks size source.old
         block.new.items source.new) }
-    ensures reliable { W.never_fails run.old.writer → W.never_fails run.new.writer }
     ensures len { IfOk result
-        (λ len. len ≡ capped (block_len interval (map T.entry block.new.items))) }
+        (λ r. r.1 ≡ capped (block_len interval (map T.entry block.new.items))) }
 {
     block.clear();
     let len = fill_block(alloc, source, block, interval, size)?;
-    if !run.fits_after(block) {
+    if !table.fits_after(block) {
         return Err(Error::OutOfOrder);
     }
-    run.add_block(block)?;
-    Ok(len)
+    let table = table.with_block(block)?;
+    Ok((table, len))
 }
 
 // Whether a table goes on: an entry is left, and the table has not reached its size, or that entry
@@ -116,72 +117,73 @@ fn goes_on<T: Ranked + AsEntry + Drop, I: Source<T>>(
 }
 
 // Writes the next table of a source that no error ended.
-fn next_table<H: BlockHash, T: Ranked + AsEntry + Drop, I: Source<T>, W: Output + Drop>(
+fn next_table<K: TableWriter<T>, T: Ranked + AsEntry + Drop, I: Source<T>>(
     alloc: Global,
     source: &mut Head<T, I>,
-    writer: W,
-    config: RunConfig,
+    writer: K::Writer,
+    form: K::Form,
     sizes: Sizes,
-) -> Result<(Option<RunHandles>, W)>
-    requires writable { IsWritable config }
-    ensures table { IfOk result (λ r. IfSome r.0 (λ handles.
-        IsTableOf (form H.hash64 H.hash128 config) sizes (W.contents writer) (W.contents r.1)
-        handles (entries_in T.entry source.old.list) (entries_in T.entry source.new.list))) }
+) -> Result<(Option<RunHandles>, K::Writer)>
+    requires writable { K.writable form }
+    ensures table { IfOk result (λ r. IfSome r.0 (λ handles. IsTableOf (K.kind form) sizes
+        (K.Writer.contents writer) (K.Writer.contents r.1) handles
+        (entries_in T.entry source.old.list) (entries_in T.entry source.new.list))) }
     ensures most { IfOk result (λ r. IfSome r.0 (λ _. source.new.most < source.old.most)) }
     ensures done { IfOk result (λ r. IfNone r.0 (IfSome source.old.list (λ xs. xs ≡ []))) }
     ensures unwritten { IfOk result (λ r. IfNone r.0 (r.1 ≡ writer)) }
     ensures ended { OnOk result (source.new.ended ≡ source.old.ended) }
-    ensures cause { IfErr result (MayNotWrite I.may_fail (W.never_fails writer → ⊥) T.entry
-        (form H.hash64 H.hash128 config) sizes.block source.old) }
+    ensures cause { IfErr result (MayNotWrite I.may_fail (K.Writer.never_fails writer → ⊥) T.entry
+        (K.kind form) sizes.block source.old) }
     ensures no_more { OnOk result (MeetsNoMore source.old source.new) }
 {
     if source.peek().is_none() {
         return Ok((None, writer));
     }
-    let mut run = RunWriter::<H, W>::new(alloc, writer, config);
+    let interval = K::restart_interval(&form);
+    let begun = K::begin(alloc, writer, form);
     let mut block = Vec::new(alloc);
-    let interval = config.restart_interval;
-    let mut len = add_block(alloc, source, &mut run, &mut block, interval, sizes.block)?;
+    let (mut table, mut len) = add_block(alloc, source, begun, &mut block, interval, sizes.block)?;
     while goes_on(source, &block, len, sizes.table) {
-        let added = add_block(alloc, source, &mut run, &mut block, interval, sizes.block)?;
+        let (more, added) = add_block(alloc, source, table, &mut block, interval, sizes.block)?;
+        table = more;
         len = len.saturating_add(added);
     }
-    let (handles, writer) = run.finish()?;
+    let (handles, writer) = table.finish()?;
     Ok((Some(handles), writer))
 }
 
-/// Writes the next table of a source: entries in blocks, up to a size. Returns its handles, or
-/// `None` where nothing is left, and the writer, which is as it was then. Memory is taken for one
-/// block, and what a `RunWriter` keeps.
+/// Writes the next table of a source: entries in blocks, up to a size, by a [`TableWriter`], such
+/// as `RunWriter`. Returns its handles, or `None` where nothing is left, and the writer, which is
+/// as it was then. Memory is taken for one block, and what the `TableWriter` keeps.
 ///
 /// # Errors
 ///
-/// Those of the source and of `RunWriter`; `Error::OutOfOrder` if the source is not in order. Each
-/// of them ends the source, since entries were taken of it that are in no table: each later step
-/// returns the error again.
-pub fn write_table<H: BlockHash, T: Ranked + AsEntry + Drop, I: Source<T>, W: Output + Drop>(
+/// Those of the source and of the `TableWriter`; `Error::OutOfOrder` if the source is not in order.
+/// Each of them ends the source, since entries were taken of it that are in no table: each later
+/// step returns the error again.
+pub fn write_table<K: TableWriter<T>, T: Ranked + AsEntry + Drop, I: Source<T>>(
     alloc: Global,
     source: &mut Head<T, I>,
-    writer: W,
-    config: RunConfig,
+    writer: K::Writer,
+    form: K::Form,
     sizes: Sizes,
-) -> Result<(Option<RunHandles>, W)>
-    requires writable { IsWritable config }
-    ensures table { IfOk result (λ r. IfSome r.0 (λ handles.
-        IsTableOf (form H.hash64 H.hash128 config) sizes (W.contents writer) (W.contents r.1)
-        handles (entries_in T.entry source.old.list) (entries_in T.entry source.new.list))) }
+) -> Result<(Option<RunHandles>, K::Writer)>
+    requires writable { K.writable form }
+    ensures table { IfOk result (λ r. IfSome r.0 (λ handles. IsTableOf (K.kind form) sizes
+        (K.Writer.contents writer) (K.Writer.contents r.1) handles
+        (entries_in T.entry source.old.list) (entries_in T.entry source.new.list))) }
     ensures most { IfOk result (λ r. IfSome r.0 (λ _. source.new.most < source.old.most)) }
     ensures done { IfOk result (λ r. IfNone r.0 (IfSome source.old.list (λ xs. xs ≡ []))) }
     ensures unwritten { IfOk result (λ r. IfNone r.0 (r.1 ≡ writer)) }
     ensures ended { EndsBy source.old.ended source.new.ended result }
-    ensures cause { IfErr result (MayNotWrite I.may_fail (W.never_fails writer → ⊥) T.entry
-        (form H.hash64 H.hash128 config) sizes.block source.old) }
+    ensures cause { IfErr result (MayNotWrite I.may_fail (K.Writer.never_fails writer → ⊥) T.entry
+        (K.kind form) sizes.block source.old) }
     ensures no_more { OnOk result (MeetsNoMore source.old source.new) }
 {
     if let Some(error) = source.end() {
         return Err(error);
     }
-    match next_table::<H, T, I, W>(alloc, source, writer, config, sizes) {
+    match next_table::<K, T, I>(alloc, source, writer, form, sizes) {
         Ok(table) => Ok(table),
         Err(error) => Err(source.end_with(&error)),
     }

@@ -4,5 +4,6 @@ pub mod Closings
 pub mod Files
 pub mod Footers
 pub mod Joins
+pub mod Kinds
 pub mod Longer
 pub mod Sounds

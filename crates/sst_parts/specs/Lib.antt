@@ -6,5 +6,6 @@ pub mod ManyReads
 pub mod Parts
 pub mod PartScans
 pub mod PartWriting
+pub mod PartKinds
 pub mod PartChecks
 pub mod PartFinds

@@ -1,5 +1,5 @@
 -- A parted table that is being written.
-use Rattle.std.specs.Prelude.{◌≡◌, ℕ, ◌+◌, ◌-◌, ◌≤◌, ◌<◌, ◌^◌, ◌&&◌, ◌||◌, Bool, true, nat_le, if◌then◌else◌, List, [], ◌∷◌, ◌++◌, length, sum_by, Option, None, Some, Ok}
+use Rattle.std.specs.Prelude.{◌≡◌, ℕ, ◌+◌, ◌-◌, ◌≤◌, ◌<◌, ◌^◌, ◌&&◌, ◌||◌, Bool, false, true, nat_le, if◌then◌else◌, List, [], ◌∷◌, ◌++◌, length, take, sum_by, Option, None, Some, Ok}
 use Rattle.std.specs.Io.KnownBytes.{Appends}
 use Rattle.std.specs.List.{AllByRecursion}
 use Rattle.sstable_blocks.specs.Prelude.{HandleParts, Entry, frame, entries, Handle, handles, IsIndexBlock, index_payload, IsOrdered}
@@ -28,6 +28,17 @@ reaches limit n = nat_le 1 limit && nat_le limit n
 unfoldable pub is_full : PartSizes → List (List Entry) → Bool
 is_full sizes blocks = reaches sizes.blocks (length blocks) || reaches sizes.bytes (data_len (joined blocks))
 
+-- no fewer of some blocks, but for none, are full
+abbrev pub IsFirstFull : PartSizes → List (List Entry) → Type 0
+IsFirstFull sizes blocks = (n : ℕ) → 1 ≤ n → n < length blocks → is_full sizes (take n blocks) ≡ false
+
+-- parts are cut by their sizes: each that is closed ends with the block with which it is full, and no fewer blocks of the
+-- last one are; that has none only where none is written
+pub record AreCut (sizes : PartSizes) (closed : List (List (List Entry))) (last : List (List Entry)) : Type 0 where
+  pub full : AllByRecursion (λ part. (is_full sizes part ≡ true) × IsFirstFull sizes part) closed
+  pub first : IsFirstFull sizes last
+  pub none : last ≡ [] → closed ≡ []
+
 -- the parts that are closed before one more block is written, and the blocks of the part that the block is added to
 abbrev pub parts_before : PartSizes → List (List (List Entry)) → List (List Entry) → List (List (List Entry))
 parts_before sizes parts current = if is_full sizes current then parts ++ current ∷ [] else parts
@@ -35,15 +46,13 @@ parts_before sizes parts current = if is_full sizes current then parts ++ curren
 abbrev pub current_before : PartSizes → List (List Entry) → List (List Entry)
 current_before sizes current = if is_full sizes current then [] else current
 
--- what contracts see of a writer of a parted table: how it writes, and where it ends parts; the parts that are closed, the
--- blocks of the current part, and the offset where that begins; the bytes that its writer held when it was made, if
--- those are known, and the writer
+-- what contracts see of a writer of a parted table: how it writes, and where it ends parts; the parts that are closed, and
+-- the blocks of the current part; the bytes that its writer held when it was made, if those are known, and the writer
 pub record PartWriting (W : Type 0) : Type 0 where
   pub config : RunConfig
   pub sizes : PartSizes
   pub parts : List (List (List Entry))
   pub current : List (List Entry)
-  pub offset : ℕ
   pub start : Option (List ℕ)
   pub writer : W
 
@@ -102,6 +111,10 @@ AppendsParted f parts old new top = (bytes : List ℕ) × IsPartedLayout f parts
 abbrev pub AppendsPartedFile : Hashes → List (List (List Entry)) → Option (List ℕ) → Option (List ℕ) → HandleParts → Type 0
 AppendsPartedFile c parts old new top = (bytes : List ℕ) × IsPartedFile c parts bytes top × Appends old new bytes
 
+-- they grew by such a layout but for its footer
+abbrev pub AppendsOpen : Form → List (List (List Entry)) → Option (List ℕ) → Option (List ℕ) → HandleParts → Type 0
+AppendsOpen f parts old new top = (bytes : List ℕ) × IsPartedLayout f parts (bytes ++ footer (top_handles top)) top × Appends old new bytes
+
 -- they grew by the table file of a part at an offset, which this handle names
 pub record AppendsPart (f : Form) (blocks : List (List Entry)) (offset : ℕ) (old new : Option (List ℕ)) (h : Handle) : Type 0 where
   pub text : List ℕ
@@ -116,10 +129,14 @@ pub record PartFileFits (f : Form) (offset : ℕ) (blocks : List (List Entry)) :
   pub size : (bytes : List ℕ) (h : RunHandles) → IsLayout f blocks bytes h → length bytes + 24 < 2 ^ 32
   pub end : (bytes : List ℕ) (h : RunHandles) → IsLayout f blocks bytes h → offset + (length bytes + 24) < 2 ^ 64
 
+-- the table file of a part fits behind those of other parts
+abbrev pub PartEnds : Form → List (List (List Entry)) → List (List Entry) → Type 0
+PartEnds f parts part = (texts : List (List ℕ)) (tops : List Handle) → ArePartFiles f 0 parts texts tops → PartFileFits f (length (joined texts)) part
+
 -- one more block fits: the part that it does not fit into any more, and its frame behind those of the part that it is
 -- added to
 pub record NextFits {W : Type 0} (f : Form) (w : PartWriting W) (block : List Entry) : Type 0 where
-  pub closes : is_full w.sizes w.current ≡ true → PartFileFits f w.offset w.current
+  pub closes : is_full w.sizes w.current ≡ true → PartEnds f w.parts w.current
   pub frame_fits : FrameFits f (length (block_frames f (current_before w.sizes w.current))) block
 
 -- the index of parts fits after their table files
@@ -128,7 +145,7 @@ TopFits f parts = (texts : List (List ℕ)) (tops : List Handle) → ArePartFile
 
 -- the end of a parted table fits: the last part, and the index of all parts
 pub record EndFits {W : Type 0} (f : Form) (w : PartWriting W) : Type 0 where
-  pub last : PartFileFits f w.offset w.current
+  pub last : PartEnds f w.parts w.current
   pub top : TopFits f (w.parts ++ w.current ∷ [])
 
 -- an entry with this key and this sequence number is the last of a list
@@ -165,12 +182,12 @@ pub record Closes (old : ClosedView) (blocks : List (List Entry)) (new : ClosedV
   pub parts : new.parts ≡ old.parts ++ blocks ∷ []
   pub after : new.after ≡ now
 
--- a writer's known bytes grew by the frame of an index at an offset, which this handle names, and a footer
+-- a writer's known bytes grew by the frame of an index at an offset, which this handle names
 pub record AppendsTop (hash128 : List ℕ → ℕ) (offset : ℕ) (payload : List ℕ) (old new : Option (List ℕ)) (top : HandleParts) : Type 0 where
   pub fits : PartFits offset payload
   pub offset_is : top.offset ≡ offset
   pub size : top.size ≡ 33 + length payload
-  pub bytes : Appends old new (frame hash128 Meta payload ++ footer (top_handles top))
+  pub bytes : Appends old new (frame hash128 Meta payload)
 
 -- the run of the current part begins where the parts closed end
 pub record Joins {W : Type 0} (closed : ClosedView) (run : Writing W) : Type 0 where
@@ -203,6 +220,6 @@ pub record IsNextPart {W : Type 0} (closed : ClosedView) (run : Writing W) (full
 pub record IsOpenPart {W : Type 0} (closed : ClosedView) (run : Writing W) (sizes : PartSizes) (blocks : List (List Entry)) (end : Option PartEnd) (left : ℕ) : Type 0 where
   pub writable : IsWritable closed.config
   pub current : IsCurrent closed run blocks end
-  pub first : run.blocks ≡ [] → closed.parts ≡ []
   pub left_is : left ≡ sizes.bytes - data_len (joined run.blocks)
+  pub cut : AreCut sizes closed.parts run.blocks
   pub ordered : IsOrdered entries (joined (joined closed.parts ++ run.blocks))

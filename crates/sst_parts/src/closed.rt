@@ -2,9 +2,9 @@
 ghost use Rattle.std.specs.Prelude.{◌≡◌, ◌⊎◌, ◌+◌, ◌++◌, ◌∷◌, [], ◌≤◌, ◌<◌, ◌^◌, IfErr, IfOk};
 ghost use Rattle.std.specs.Prelude.{IsErrOf};
 ghost use Rattle.std.specs.Prelude.{IfSome, IsNone, IsOkUnless, None, Some, length, map};
-ghost use Rattle.sst_parts.specs.PartWriting.{AppendsPart, AppendsParted, AppendsTop, Closes};
+ghost use Rattle.sst_parts.specs.PartWriting.{AppendsOpen, AppendsPart, AppendsTop, Closes};
 ghost use Rattle.sst_parts.specs.PartWriting.{IsCurrent};
-ghost use Rattle.sst_parts.specs.PartWriting.{IsLastOf, PartFileFits, TopFits};
+ghost use Rattle.sst_parts.specs.PartWriting.{IsLastOf, PartEnds, PartFileFits, TopFits};
 ghost use Rattle.sstable_blocks.specs.Blocks.{joined};
 ghost use Rattle.sstable_blocks.specs.Footer.{run_end};
 ghost use Rattle.sstable_blocks.specs.Prelude.{entries, IsOrdered};
@@ -80,8 +80,8 @@ fn end_part<H: BlockHash, W: Output + Drop>(
     Ok((KeyedBlockHandle::new(key, seqno, place), writer))
 }
 
-// Writes the frame of the index of the parts at an offset, and the footer.
-fn end_file<H: BlockHash, W: Output>(
+// Writes the frame of the index of the parts at an offset.
+fn write_index<H: BlockHash, W: Output>(
     writer: &mut W,
     payload: &[u8],
     offset: u64,
@@ -96,11 +96,6 @@ fn end_file<H: BlockHash, W: Output>(
         return Err(Error::TooLong);
     };
     let _header = Block::write_into::<H, W>(writer, payload, BlockType::Meta)?;
-    let footer = encode_footer(&RunHandles {
-        index: top,
-        filter: None,
-    });
-    writer.put(&footer)?;
     Ok(top)
 }
 
@@ -231,8 +226,8 @@ impl<H: BlockHash> ClosedParts<H> {
         ensures closed { IfOk result (λ r. Closes self run.blocks r.0 (W.contents r.1)) }
         ensures reliable { IfOk result (λ r. W.never_fails run.writer → W.never_fails r.1) }
         ensures failed { IsErrOf result Io → W.never_fails run.writer → ⊥ }
-        ensures cause { IfErr result (IsWriteRefusal (PartFileFits
-            (form H.hash64 H.hash128 self.config) self.offset run.blocks → ⊥)) }
+        ensures cause { IfErr result (IsWriteRefusal (PartEnds
+            (form H.hash64 H.hash128 self.config) self.parts run.blocks → ⊥)) }
     {
         let ClosedParts {
             hash: _,
@@ -260,8 +255,7 @@ impl<H: BlockHash> ClosedParts<H> {
         Ok((closed, writer))
     }
 
-    /// Ends the table: writes the index of the parts and the footer. Returns the handle of the
-    /// index.
+    /// Writes the index of the parts. Returns its handle.
     ///
     /// # Errors
     ///
@@ -272,7 +266,7 @@ impl<H: BlockHash> ClosedParts<H> {
         requires ordered { IsOrdered entries (joined (joined self.now.parts)) }
         requires interval { 1 ≤ self.now.config.index_interval }
         requires after { W.contents writer.old ≡ self.now.after }
-        ensures layout { IfOk result (λ top. AppendsParted (form H.hash64 H.hash128 self.now.config)
+        ensures parts { IfOk result (λ top. AppendsOpen (form H.hash64 H.hash128 self.now.config)
             self.now.parts self.now.start (W.contents writer.new) top) }
         ensures writer { UsesWriter W.never_fails writer.old writer.new result }
         ensures cause { IfErr result (IsWriteRefusal
@@ -280,6 +274,6 @@ impl<H: BlockHash> ClosedParts<H> {
     {
         let (alloc, interval) = (*self.tops.allocator(), self.config.index_interval);
         let payload = IndexBlock::encode_into_vec_with(alloc, &self.tops, interval)?;
-        end_file::<H, W>(writer, &payload, self.offset)
+        write_index::<H, W>(writer, &payload, self.offset)
     }
 }

@@ -27,4 +27,4 @@ pub use checking::PartedSummary;
 pub use parted_ref::PartedRef;
 pub use scan::PartedScan;
 pub use table::PartedTable;
-pub use writer::{PartSizes, PartWriter};
+pub use writer::{PartForm, PartSizes, PartWriter};

@@ -1,10 +1,11 @@
 //! Writing a parted table, a block at a time.
 ghost use Rattle.std.specs.Prelude.{◌≡◌, ◌↔◌, ◌-◌, ◌++◌, ◌∷◌, [], ◌≤◌, IfErr, IfOk, IsErrOf};
 ghost use Rattle.std.specs.Prelude.{IsTrue, ℕ};
-ghost use Rattle.std.specs.Prelude.{OnErr, if◌then◌else◌};
+ghost use Rattle.std.specs.Prelude.{OnErr, OnOk, if◌then◌else◌};
 ghost use Rattle.std.specs.Prelude.{None, length, map, true};
-ghost use Rattle.sst_parts.specs.PartWriting.{AddsTo, AppendsParted, AppendsPartedFile, EndFits};
-ghost use Rattle.sst_parts.specs.PartWriting.{IsCurrent, IsNextPart, NextFits, PartFileFits};
+ghost use Rattle.sst_parts.specs.PartWriting.{AddsTo, AppendsOpen, AppendsParted};
+ghost use Rattle.sst_parts.specs.PartWriting.{AppendsPartedFile, AreCut, EndFits, IsCurrent};
+ghost use Rattle.sst_parts.specs.PartWriting.{IsNextPart, NextFits, PartEnds, top_handles};
 ghost use Rattle.sst_parts.specs.PartWriting.{blocks_so_far, data_len, is_full, reaches};
 ghost use Rattle.sstable_blocks.specs.Results.{Io};
 ghost use Rattle.sstable_blocks.specs.Run.{IsWritable, form};
@@ -14,7 +15,7 @@ ghost use Rattle.sstable_blocks.specs.Writing.{Follows, IsWriteRefusal};
 use crate::closed::{ClosedParts, PartEnd};
 use crate::laws::parted_layout_is_parted;
 use sstable_blocks::ghost_state::History;
-use sstable_blocks::run::{RunConfig, RunWriter};
+use sstable_blocks::run::{RunConfig, RunHandles, RunWriter, TableWriter, encode_footer};
 use sstable_blocks::{AsEntry, BlockHandle, BlockHash, InternalValue, Output, Result};
 use std::alloc::Global;
 use std::collections::LinkedList;
@@ -91,8 +92,8 @@ fn next_part<H: BlockHash, W: Output + Drop>(
     ensures full { OnErr result (full ≡ true) }
     ensures reliable { IfOk result (λ r. W.never_fails run.writer → W.never_fails r.1.writer) }
     ensures failed { IsErrOf result Io → W.never_fails run.writer → ⊥ }
-    ensures cause { IfErr result (IsWriteRefusal (PartFileFits
-        (form H.hash64 H.hash128 closed.config) closed.offset run.blocks → ⊥)) }
+    ensures cause { IfErr result (IsWriteRefusal (PartEnds
+        (form H.hash64 H.hash128 closed.config) closed.parts run.blocks → ⊥)) }
 {
     if !full {
         return Ok((closed, run));
@@ -108,8 +109,7 @@ fn next_part<H: BlockHash, W: Output + Drop>(
 /// before.
 ///
 /// Clauses see the configuration and the sizes, the blocks of the parts closed, those of the part
-/// that is current, the offset where that begins, what the writer held when this was made, and the
-/// writer.
+/// that is current, what the writer held when this was made, and the writer.
 #[derive(Drop)]
 pub struct PartWriter<H: BlockHash, W: Output> {
     closed: ClosedParts<H>,
@@ -133,7 +133,6 @@ impl<H: BlockHash, W: Output> Model for PartWriter<H, W> {
       sizes = w.sizes;
       parts = w.closed.parts;
       current = w.run.blocks;
-      offset = w.closed.offset;
       start = w.closed.start;
       writer = w.run.writer;
     } };
@@ -151,7 +150,6 @@ impl<H: BlockHash, W: Output> PartWriter<H, W> {
           sizes = sizes;
           parts = [];
           current = [];
-          offset = 0;
           start = W.contents writer;
           writer = writer;
         } }
@@ -179,6 +177,13 @@ impl<H: BlockHash, W: Output> PartWriter<H, W> {
         ensures { IsTrue result ↔ (1 ≤ length self.now.current) }
     {
         self.run.block_count() > 0
+    }
+
+    // Tells that the parts are cut by the sizes.
+    fn tell_cut(&self)
+        ensures { AreCut self.now.sizes self.now.parts self.now.current }
+    {
+        let _sizes = self.sizes;
     }
 
     // Whether the current part ends before the next block.
@@ -235,27 +240,24 @@ impl<H: BlockHash, W: Output + Drop> PartWriter<H, W> {
         })
     }
 
-    /// Ends the table: ends the last part, and writes the index of the parts and the footer.
-    /// Returns the handle of the index, and the writer, which is not flushed or synced. A block was
-    /// written.
+    /// Ends the last part, and writes the index of the parts. Returns its handle, and the writer,
+    /// into which no footer is written. A block was written.
     ///
     /// # Errors
     ///
     /// `Error::TooLong` only where the last part does not fit, as [`PartWriter::add_block`] says,
     /// or the payload of the index has more than 4294967262 bytes, or its frame ends at 2^64 or
     /// above. `Error::Memory` if an allocation fails, `Error::Io` if the writer fails.
-    pub fn finish(self) -> Result<(BlockHandle, W)>
+    pub fn finish_parts(self) -> Result<(BlockHandle, W)>
         requires { 1 ≤ length self.current }
-        ensures layout { IfOk result (λ r. AppendsParted (form H.hash64 H.hash128 self.config)
-            (self.parts ++ self.current ∷ []) self.start (W.contents r.1) r.0) }
-        ensures sound { IfOk result (λ r. AppendsPartedFile (hashes H.hash64 H.hash128)
+        ensures cut { OnOk result (AreCut self.sizes self.parts self.current) }
+        ensures parts { IfOk result (λ r. AppendsOpen (form H.hash64 H.hash128 self.config)
             (self.parts ++ self.current ∷ []) self.start (W.contents r.1) r.0) }
         ensures reliable { IfOk result (λ r. W.never_fails self.writer → W.never_fails r.1) }
         ensures failed { IsErrOf result Io → W.never_fails self.writer → ⊥ }
         ensures cause { IfErr result (IsWriteRefusal
             (EndFits (form H.hash64 H.hash128 self.config) self → ⊥)) }
     {
-        parted_layout_is_parted();
         let PartWriter {
             closed,
             run,
@@ -268,5 +270,93 @@ impl<H: BlockHash, W: Output + Drop> PartWriter<H, W> {
         let (closed, mut writer) = closed.close(run, &blocks, end)?;
         let top = closed.write_top(&mut writer)?;
         Ok((top, writer))
+    }
+
+    /// Ends the table: the last part, the index of the parts and the footer. Returns the handle of
+    /// the index, and the writer, which is not flushed or synced. A block was written.
+    ///
+    /// # Errors
+    ///
+    /// Those of [`PartWriter::finish_parts`].
+    pub fn finish(self) -> Result<(BlockHandle, W)>
+        requires { 1 ≤ length self.current }
+        ensures layout { IfOk result (λ r. AppendsParted (form H.hash64 H.hash128 self.config)
+            (self.parts ++ self.current ∷ []) self.start (W.contents r.1) r.0) }
+        ensures sound { IfOk result (λ r. AppendsPartedFile (hashes H.hash64 H.hash128)
+            (self.parts ++ self.current ∷ []) self.start (W.contents r.1) r.0) }
+        ensures reliable { IfOk result (λ r. W.never_fails self.writer → W.never_fails r.1) }
+        ensures failed { IsErrOf result Io → W.never_fails self.writer → ⊥ }
+        ensures cause { IfErr result (IsWriteRefusal
+            (EndFits (form H.hash64 H.hash128 self.config) self → ⊥)) }
+    {
+        parted_layout_is_parted();
+        let (top, mut writer) = self.finish_parts()?;
+        writer.put(&encode_footer(&footer_handles(top)))?;
+        Ok((top, writer))
+    }
+}
+
+// The handles in the footer of a parted table, whose index has this handle.
+fn footer_handles(top: BlockHandle) -> RunHandles
+    ensures { result ≡ top_handles top }
+{
+    RunHandles {
+        index: top,
+        filter: None,
+    }
+}
+
+/// How a parted table is written.
+#[derive(Clone, Copy, Debug, PartialEq, Eq)]
+pub struct PartForm {
+    /// How the run of each part is encoded.
+    pub config: RunConfig,
+    /// Where parts end.
+    pub sizes: PartSizes,
+}
+
+/// A parted table.
+impl<H: BlockHash, W: Output + Drop, T: AsEntry> TableWriter<T> for PartWriter<H, W> {
+    ghost use Rattle.sst_parts.specs.PartKinds.{parted_kind};
+
+    type Form = PartForm;
+
+    type Writer = W;
+
+    ghost writable = { λ f. IsWritable f.config };
+
+    ghost kind = { λ f. parted_kind (form H.hash64 H.hash128 f.config) f.sizes };
+
+    ghost so_far = { λ w. record {
+      form = record { config = w.config; sizes = w.sizes };
+      blocks = blocks_so_far w;
+      start = w.start;
+    } };
+
+    ghost accepts = { λ _. Unit {0} };
+
+    ghost is_reliable = { λ w. W.never_fails w.writer };
+
+    fn restart_interval(form: &PartForm) -> u8 {
+        form.config.restart_interval
+    }
+
+    fn begin(alloc: Global, writer: W, form: PartForm) -> PartWriter<H, W> {
+        PartWriter::new(alloc, writer, form.config, form.sizes)
+    }
+
+    fn fits_after(&self, items: &[T]) -> bool {
+        self.fits_after(items)
+    }
+
+    fn with_block(self, items: &[T]) -> Result<PartWriter<H, W>> {
+        self.tell_cut();
+        self.add_block(items)
+    }
+
+    fn finish(self) -> Result<(RunHandles, W)> {
+        self.tell_cut();
+        let (top, writer) = self.finish_parts()?;
+        Ok((footer_handles(top), writer))
     }
 }

@@ -10,6 +10,7 @@ pub mod Run
 pub mod Opened
 pub mod ReadCosts
 pub mod Writing
+pub mod TableKinds
 pub mod RunLaws
 pub mod RunReading
 pub mod Sources

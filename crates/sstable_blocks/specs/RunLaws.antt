@@ -31,7 +31,7 @@ refusal_on P Q e (inl io) f = inl io
 refusal_on P Q e (inr (inl long)) f = inr (inl (long.0, f long.1))
 refusal_on P Q e (inr (inr memory)) f = inr (inr memory)
 
-all_at : {X : Type 0} (P : X → Type 0) (xs : List X) (x : X) (ys : List X) → AllByRecursion P (xs ++ x ∷ ys) → P x
+pub all_at : {X : Type 0} (P : X → Type 0) (xs : List X) (x : X) (ys : List X) → AllByRecursion P (xs ++ x ∷ ys) → P x
 all_at P [] x ys h = h.0
 all_at P (y ∷ xs) x ys h = all_at P xs x ys h.1
 

@@ -11,8 +11,8 @@ use sst_block_cases::room::{KeptTable, Room};
 use sst_block_cases::texts::agreed;
 use sst_block_cases::words::{bytes_of, number_of, push_word, word_of_found};
 use sst_merge::{Outputs, Ranged, Reader, Sizes, Source, compact_tables, read_tables};
-use sstable_blocks::Table;
 use sstable_blocks::run::{FrameSource, MemorySource, RunConfig, RunHandles, RunSummary, Scan};
+use sstable_blocks::{RunWriter, Table};
 use std::alloc::Global;
 use std::ops::Bound;
 
@@ -83,7 +83,7 @@ fn compact_into<H: BlockHash, I: Source<InternalValue> + Drop>(
 ) -> Result<()> {
     let config = RunConfig::new(2, HashRatio { num: 1, den: 1 }, 10);
     let (snapshots, bottom, sizes) = (plan.snapshots, plan.bottom, plan.sizes);
-    Ok(compact_tables::<H, InternalValue, I, bool, Kept>(
+    Ok(compact_tables::<RunWriter<H, Vec<u8>>, InternalValue, I, bool, Kept>(
         alloc, source, snapshots, bottom, kept, config, sizes,
     )?)
 }

@@ -14,6 +14,7 @@ use Rattle.sst_merge.specs.declared.writing.Sizes.{Sizes}
 use Rattle.sst_examples.specs.Tables.{MemoryTable, merged_tables, table_entries, table_hashes}
 use Rattle.sstable_blocks.specs.Blocks.{joined}
 use Rattle.sstable_blocks.specs.Run.{Form, IsLayout}
+use Rattle.sstable_blocks.specs.TableKinds.{run_kind}
 use Rattle.sstable_blocks.specs.declared.run.RunHandles.{RunHandles}
 
 -- the lists of sources that have a table's entries each
@@ -60,7 +61,7 @@ all_taken items all None taken none = absurd (cc)
 all_taken items all (Some rest) taken none = sym (some_is items (all ++ rest) taken ∙ ap (λ xs. all ++ xs) none ∙ append-nil all)
 
 -- a table after which nothing is left has all entries
-pub all_written : (f : Form) (sizes : Sizes) (start bytes : List ℕ) (h : RunHandles) (items : List Entry) (before after : Option (List Entry)) → IsWrittenTable f sizes (Some start) (Some bytes) h before after → start ≡ [] → before ≡ Some items → IfSome after (λ xs. xs ≡ []) → IsRunOf f bytes h items
+pub all_written : (f : Form) (sizes : Sizes) (start bytes : List ℕ) (h : RunHandles) (items : List Entry) (before after : Option (List Entry)) → IsWrittenTable (run_kind f) sizes (Some start) (Some bytes) h before after → start ≡ [] → before ≡ Some items → IfSome after (λ xs. xs ≡ []) → IsRunOf f bytes h items
 all_written f sizes start bytes h items before after t empty known none = record {
   blocks = t.blocks;
   layout = subst (λ text. IsLayout f t.blocks text h) (sym (t.layout.2 ∙ ap (λ xs. xs ++ t.layout.0) empty)) t.layout.1;

@@ -13,7 +13,7 @@ use sst_merge::{Head, Merge, Ranked, Sizes, Source, write_table};
 use sstable_blocks::run::laws::{accepted_run_is_sound, layout_is_sound, sound_is_scanned};
 use sstable_blocks::{
     AsEntry, EntryView, Error, HashRatio, MemorySource, Result, RunConfig, RunHandles, RunScan,
-    Slice, Table, Xxh3,
+    RunWriter, Slice, Table, Xxh3,
 };
 use std::alloc::Global;
 
@@ -77,7 +77,7 @@ pub(crate) fn table_of<T: Ranked + AsEntry + Drop, I: Source<T> + Drop>(
     };
     let mut head = Head::new(alloc, source)?;
     let writer = Vec::new(alloc);
-    let (written, bytes) = write_table::<Xxh3, T, I, Vec<u8>>(
+    let (written, bytes) = write_table::<RunWriter<Xxh3, Vec<u8>>, T, I>(
         alloc, &mut head, writer, config, sizes,
     )?;
     let Some(handles) = written else {

@@ -1,17 +1,17 @@
 -- Blocks behind parts that are closed.
-use Rattle.std.proofs.Common.{◌≡◌, ℕ, ◌+◌, ◌-◌, ◌≤◌, ◌||◌, ◌&&◌, Bool, true, false, cond, inl, inr, List, [], ◌∷◌, ◌++◌, length, refl, arith, sym, ◌∙◌, ap, subst, append_assoc, length-append, Option, Some, None}
-use Rattle.std.proofs.lemmas.Bool.{cases_Bool}
+use Rattle.std.proofs.Common.{◌≡◌, ℕ, ◌+◌, ◌-◌, ◌<◌, ◌≤◌, ◌||◌, ◌&&◌, Bool, true, false, cond, inl, inr, List, [], ◌∷◌, ◌++◌, length, take, refl, arith, sym, ◌∙◌, ap, subst, append_assoc, length-append, Option, Some, None}
+use Rattle.std.proofs.lemmas.Bool.{cases_Bool, cases_lt}
 use Rattle.std.proofs.lemmas.Bool.Decides.{nat_tests}
-use Rattle.std.proofs.lemmas.List.{append-nil}
+use Rattle.std.proofs.lemmas.List.{append-nil, length_push, take-append-le, take_all}
 use Rattle.std.proofs.lemmas.List.Sums.{sum_by-append}
 use Rattle.std.specs.Prelude.{nat_le}
 use Rattle.std.specs.declared.cmp.Ordering.{Ordering}
 use Rattle.sstable_blocks.specs.Prelude.{Entry, IsInOrder, entries, IsOrdered, item_cmp}
-use Rattle.sst_parts.specs.PartWriting.{ClosedView, IsEndOf, IsLastOf, IsNextPart, IsOpenPart, data_len, is_full, reaches}
+use Rattle.sst_parts.specs.PartWriting.{AreCut, ClosedView, IsEndOf, IsFirstFull, IsLastOf, IsNextPart, IsOpenPart, data_len, is_full, reaches}
 use Rattle.sst_parts.specs.declared.closed.PartEnd.{PartEnd}
 use Rattle.sst_parts.specs.declared.writer.PartSizes.{PartSizes}
 use Rattle.sst_parts.proofs.Writing.Joins.{joined-append}
-use Rattle.sstable_blocks.specs.EndLaws.{back_in_order}
+use Rattle.sstable_blocks.specs.EndLaws.{all_push, back_in_order}
 use Rattle.sstable_blocks.specs.Blocks.{joined}
 use Rattle.sstable_blocks.specs.Run.{IsWritable}
 use Rattle.sstable_blocks.specs.RunLaws.{joined_push}
@@ -102,18 +102,36 @@ left_behind false bytes left left' blocks items is e =
     omega (arith, is, e, both)
 
 -- the blocks of all parts are the same
-same_blocks : (full : Bool) (parts : List (List (List Entry))) (blocks : List (List Entry)) → joined (cond full (parts ++ blocks ∷ []) parts) ++ cond full [] blocks ≡ joined parts ++ blocks
+pub same_blocks : (full : Bool) (parts : List (List (List Entry))) (blocks : List (List Entry)) → joined (cond full (parts ++ blocks ∷ []) parts) ++ cond full [] blocks ≡ joined parts ++ blocks
 same_blocks true parts blocks = append-nil (joined (parts ++ blocks ∷ [])) ∙ joined_push parts blocks
 same_blocks false parts blocks = refl
 
-some_behind : (bs : List (List Entry)) (b : List Entry) → 1 ≤ length (bs ++ b ∷ [])
+pub some_behind : (bs : List (List Entry)) (b : List Entry) → 1 ≤ length (bs ++ b ∷ [])
 some_behind bs b = omega (arith, length-append bs (b ∷ []))
 
+-- parts that are cut by their sizes still are with one block more
+first_more : (sizes : PartSizes) (blocks : List (List Entry)) (b : List Entry) → IsFirstFull sizes blocks → is_full sizes blocks ≡ false → IsFirstFull sizes (blocks ++ b ∷ [])
+first_more sizes blocks b first more n one inside =
+    let l = length_push blocks b in
+    let front : take n (blocks ++ b ∷ []) ≡ take n blocks = take-append-le n blocks (b ∷ []) (omega (arith, l, inside)) in
+    ap (is_full sizes) front ∙ elim (cases_lt n (length blocks)) [
+      | inl less ↦ first n one less
+      | inr all ↦ ap (is_full sizes) (take_all n blocks all) ∙ more
+    ]
+
+pub cut_next : (sizes : PartSizes) (full : Bool) (parts : List (List (List Entry))) (blocks : List (List Entry)) (b : List Entry) → AreCut sizes parts blocks → is_full sizes blocks ≡ full → AreCut sizes (cond full (parts ++ blocks ∷ []) parts) (cond full [] blocks ++ b ∷ [])
+cut_next sizes true parts blocks b cut full = record {
+  full = all_push (λ part. (is_full sizes part ≡ true) × IsFirstFull sizes part) parts blocks cut.full (full, cut.first);
+  first = λ n one inside. absurd (omega (arith, one, inside));
+  none = λ no. absurd (cc);
+}
+cut_next sizes false parts blocks b cut more = record { full = cut.full; first = first_more sizes blocks b cut.first more; none = λ no. absurd (let some = ap length no in let l = length_push blocks b in omega (arith, some, l)) }
+
 -- what is kept of the current part after one block more
-pub open_next : {W : Type 0} (closed closed' : ClosedView) (run run' run'' : Writing W) (sizes : PartSizes) (full : Bool) (blocks blocks' : List (List Entry)) (end : Option PartEnd) (left left' : ℕ) (items : List Entry) (last : PartEnd)
+pub open_next : {W : Type 0} (closed closed' : ClosedView) (run run' run'' : Writing W) (sizes : PartSizes) (full : Bool) (blocks blocks' : List (List Entry)) (end : Option PartEnd) (left left' : ℕ) (items : List Entry) (last : PartEnd) → is_full sizes run.blocks ≡ full
     → IsOpenPart closed run sizes blocks end left → IsNextPart closed run full closed' run' → IsSameRun run' run'' → run''.refusal ≡ None → run''.blocks ≡ run'.blocks ++ items ∷ [] → Follows (joined closed.parts ++ run.blocks) items → IsLastOf items last.key last.seqno
     → blocks' ≡ cond full [] blocks ++ items ∷ [] → left' ≡ cond full sizes.bytes left - data_len items → IsOpenPart closed' run'' sizes blocks' (Some last) left'
-open_next closed closed' run run' run'' sizes full blocks blocks' end left left' items last o n same accepting more follows is_last blocks_is left_is =
+open_next closed closed' run run' run'' sizes full blocks blocks' end left left' items last is o n same accepting more follows is_last blocks_is left_is =
     let now : run''.blocks ≡ cond full [] run.blocks ++ items ∷ [] = more ∙ ap (λ bs. bs ++ items ∷ []) n.blocks in
     let all : (joined closed.parts ++ run.blocks) ++ items ∷ [] ≡ joined closed'.parts ++ run''.blocks =
     ap (λ bs. bs ++ items ∷ []) (sym (ap (λ ps. joined ps ++ cond full [] run.blocks) n.parts ∙ same_blocks full closed.parts run.blocks)) ∙ append_assoc (joined closed'.parts) (cond full [] run.blocks) (items ∷ []) ∙ ap (λ bs. joined closed'.parts ++ bs) (sym now) in
@@ -125,7 +143,7 @@ open_next closed closed' run run' run'' sizes full blocks blocks' end left left'
         blocks_are = blocks_is ∙ ap (λ bs. cond full [] bs ++ items ∷ []) o.current.blocks_are ∙ sym now;
         end_is = subst (λ bs. (1 ≤ length bs) × IsLastOf (joined bs) last.key last.seqno) (sym now) (some_behind (cond full [] run.blocks) items, last_behind (cond full [] run.blocks) items last.key last.seqno is_last);
       };
-      first = λ none. (let some = subst (λ (bs : List (List Entry)). 1 ≤ length bs) none (subst (λ (bs : List (List Entry)). 1 ≤ length bs) (sym now) (some_behind (cond full [] run.blocks) items)) in absurd (omega (arith, some)));
       left_is = left_behind full sizes.bytes left left' run.blocks items o.left_is left_is ∙ ap (λ bs. sizes.bytes - data_len (joined bs)) (sym now);
+      cut = subst (λ (ps : List (List (List Entry))). AreCut sizes ps run''.blocks) (sym n.parts) (subst (AreCut sizes (cond full (closed.parts ++ run.blocks ∷ []) closed.parts)) (sym now) (cut_next sizes full closed.parts run.blocks items o.cut is));
       ordered = subst (λ bs. IsOrdered entries (joined bs)) all follows.ordered;
     }

@@ -1,5 +1,5 @@
 -- Parts that are closed, one after the other.
-use Rattle.std.proofs.Common.{◌≡◌, ◌⊎◌, ℕ, suc, ◌+◌, ◌-◌, ◌<◌, ◌≤◌, ◌^◌, List, [], ◌∷◌, ◌++◌, length, take, drop, map, get_or, drop-cons, refl, arith, sym, ◌∙◌, ap, subst, length-append, inl, inr, Option, None, Result, Ok, Err, IfOk}
+use Rattle.std.proofs.Common.{◌≡◌, ◌⊎◌, ℕ, suc, ◌+◌, ◌-◌, ◌<◌, ◌≤◌, ◌^◌, List, [], ◌∷◌, ◌++◌, length, take, drop, map, get_or, drop-cons, refl, arith, sym, ◌∙◌, ap, subst, append_assoc, length-append, inl, inr, Option, None, Result, Ok, Err, IfOk}
 use Rattle.std.proofs.KnownBytes.{Appends-nil, Appends-trans}
 use Rattle.std.proofs.Math.Seq.{drop-length}
 use Rattle.std.proofs.lemmas.List.{append-nil, map-append, take-append-drop}
@@ -8,7 +8,7 @@ use Rattle.std.specs.List.{AllByRecursion, AllZip}
 use Rattle.sstable_blocks.specs.Prelude.{HandleParts, Entry, frame, IsRefusal, entries, Handle, handles, IsIndexBlock, index_payload, IsOrdered}
 use Rattle.sstable_blocks.specs.Results.{Error, Io, TooLong}
 use Rattle.sstable_blocks.specs.BlockTypes.{Meta}
-use Rattle.sst_parts.specs.PartWriting.{AppendsPart, AppendsParted, AppendsTop, AreClosed, ArePartFiles, IsLastOf, IsPartFile, PartFileFits, TopFits, top_handles}
+use Rattle.sst_parts.specs.PartWriting.{AppendsOpen, AppendsPart, AppendsParted, AppendsTop, AreClosed, ArePartFiles, IsLastOf, IsPartFile, PartEnds, PartFileFits, TopFits, top_handles}
 use Rattle.sst_parts.proofs.Writing.Joins.{joined-append, joined-map, zip-map}
 use Rattle.sstable_blocks.specs.EndLaws.{all_push, ends_in_order}
 use Rattle.sstable_blocks.specs.Blocks.{joined}
@@ -115,14 +115,19 @@ module _ (f : Form) where
     pub tops_ordered : IsOrdered entries (joined (joined parts)) → IsOrdered handles tops
     tops_ordered ordered = ends_in_order entries handles (map joined parts) tops (zip-map joined (IsEnd entries handles) parts tops (files_end 0 parts w.texts tops w.files)) (subst (IsOrdered entries) (sym (joined-map parts)) ordered)
 
-    -- with the index and the footer they are a parted table
+    -- a part that is closed next fits where they end
+    pub fits_next : (part : List (List Entry)) → PartEnds f parts part → PartFileFits f offset part
+    fits_next part ends = subst (λ n. PartFileFits f n part) (sym w.offset_is) (ends w.texts tops w.files)
+
+    -- with the index they are a parted table but for its footer
     pub parted_by : (hs : List Handle) (interval : ℕ) (p : List ℕ) (after : Option (List ℕ)) (top : HandleParts) → hs ≡ tops → interval ≡ f.config.index_interval → IsOrdered entries (joined (joined parts)) → IsIndexBlock p hs interval → p ≡ index_payload hs interval
-        → AppendsTop f.hash128 offset p now after top → AppendsParted f parts start after top
+        → AppendsTop f.hash128 offset p now after top → AppendsOpen f parts start after top
     parted_by hs interval p after top same q ordered index is t =
-        let text : p ≡ index_payload tops f.config.index_interval = is ∙ ap (λ xs. index_payload xs interval) same ∙ ap (index_payload tops) q in
+        let payload = index_payload tops f.config.index_interval in
+        let text : p ≡ payload = is ∙ ap (λ xs. index_payload xs interval) same ∙ ap (index_payload tops) q in
         let o = w.offset_is in
         let at = t.offset_is in (
-          joined w.texts ++ (frame f.hash128 Meta (index_payload tops f.config.index_interval) ++ footer (top_handles top)),
+          joined w.texts ++ frame f.hash128 Meta payload,
           record {
             texts = w.texts;
             tops = tops;
@@ -132,7 +137,11 @@ module _ (f : Form) where
             fits = subst (PartFits (length (joined w.texts))) text (subst (λ n. PartFits n p) o t.fits);
             offset = omega arith;
             size = t.size ∙ ap (λ (xs : List ℕ). 33 + length xs) text;
-            text = refl;
+            text = append_assoc (joined w.texts) (frame f.hash128 Meta payload) (footer (top_handles top));
           },
-          subst (λ xs. Appends start after (joined w.texts ++ (frame f.hash128 Meta xs ++ footer (top_handles top)))) text (Appends-trans start now after (joined w.texts) (frame f.hash128 Meta p ++ footer (top_handles top)) w.bytes t.bytes),
+          subst (λ xs. Appends start after (joined w.texts ++ frame f.hash128 Meta xs)) text (Appends-trans start now after (joined w.texts) (frame f.hash128 Meta p) w.bytes t.bytes),
         )
+
+  -- and with that it is one
+  pub parted_ended : (parts : List (List (List Entry))) (start now after : Option (List ℕ)) (top : HandleParts) (tail : List ℕ) → AppendsOpen f parts start now top → Appends now after tail → tail ≡ footer (top_handles top) → AppendsParted f parts start after top
+  parted_ended parts start now after top tail (bytes, layout, appended) more is = (bytes ++ footer (top_handles top), layout, subst (λ xs. Appends start after (bytes ++ xs)) is (Appends-trans start now after bytes tail appended more))

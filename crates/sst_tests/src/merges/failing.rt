@@ -7,7 +7,7 @@ use sst_base::{ByteSum, Error, HashRatio, InternalValue, Output, Result, SeqNo, 
 use sst_merge::{
     Compact, Head, Merge, Ranked, Rev, Reversed, Sizes, Snapshot, Source, write_table,
 };
-use sstable_blocks::{RunConfig, RunHandles};
+use sstable_blocks::{RunConfig, RunHandles, RunWriter};
 use std::alloc::{AllocError, Global};
 use std::io::Write;
 use std::process::Abort;
@@ -324,7 +324,7 @@ fn written<I: Source<InternalValue>, W: Output + Drop>(
 ) -> Result<(Option<RunHandles>, W)> {
     let config = RunConfig::new(2, HashRatio { num: 1, den: 1 }, 10);
     let sizes = Sizes { block: 7, table: 7 };
-    write_table::<ByteSum, InternalValue, I, W>(alloc, source, writer, config, sizes)
+    write_table::<RunWriter<ByteSum, W>, InternalValue, I>(alloc, source, writer, config, sizes)
 }
 
 /// Whether a source fails with an error at each step, also one that would write a table.

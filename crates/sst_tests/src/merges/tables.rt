@@ -7,7 +7,7 @@ use crate::merges::failing::failing_after;
 use crate::merges::lists::{Row, V, entry_of, push_made};
 use sst_base::{ByteSum, Error, HashRatio, InternalValue, Result, Slice};
 use sst_merge::{Head, Outputs, Sizes, Source, compact_tables, write_tables};
-use sstable_blocks::{MemorySource, RunConfig, RunHandles, Table};
+use sstable_blocks::{MemorySource, RunConfig, RunHandles, RunWriter, Table};
 use std::alloc::Global;
 
 /// A table in memory.
@@ -65,7 +65,7 @@ fn compact<I: Source<InternalValue> + Drop>(
         more,
     };
     let config = RunConfig::new(2, HashRatio { num: 1, den: 1 }, 10);
-    let done = compact_tables::<ByteSum, InternalValue, I, bool, Kept>(
+    let done = compact_tables::<RunWriter<ByteSum, Vec<u8>>, InternalValue, I, bool, Kept>(
         alloc,
         source,
         Vec::new(alloc),
@@ -151,7 +151,9 @@ fn is_ended_by_outputs<I: Source<InternalValue>>(
 ) -> bool {
     let config = RunConfig::new(2, HashRatio { num: 1, den: 1 }, 10);
     let sizes = Sizes { block: 1, table: 1 };
-    let done = write_tables::<ByteSum, InternalValue, I, Kept>(alloc, source, kept, config, sizes);
+    let done = write_tables::<RunWriter<ByteSum, Vec<u8>>, InternalValue, I, Kept>(
+        alloc, source, kept, config, sizes,
+    );
     let taken = source.take(alloc).err();
     done == Err(Error::Io) && kept.tables.len() == 3 && taken == Some(Error::Io)
 }

@@ -25,6 +25,7 @@ pub mod shared_scan;
 pub mod source;
 pub mod sync;
 pub mod table;
+pub mod table_writer;
 pub mod write;
 pub mod writer;
 
@@ -42,6 +43,7 @@ pub use source::{FileSource, FrameSource, MemorySource, SizedSource};
 use sst_base::{BlockHandle, HashRatio};
 pub use sync::{BufferedFile, SyncWrite};
 pub use table::{OpenError, Table};
+pub use table_writer::TableWriter;
 pub use write::{cuts_fit, write_run};
 pub use writer::RunWriter;
 

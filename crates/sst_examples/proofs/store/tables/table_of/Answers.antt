@@ -9,6 +9,7 @@ use Rattle.sst_merge.specs.declared.writing.Sizes.{Sizes}
 use Rattle.sst_examples.proofs.Stored.Written.{all_written}
 use Rattle.sst_examples.proofs.store.tables.table_of.Goals as goal
 use Rattle.sstable_blocks.specs.Run.{form}
+use Rattle.sstable_blocks.specs.TableKinds.{run_kind}
 
 pub returns : goal.returns
 returns g c = λ items known.
@@ -20,8 +21,8 @@ returns g c = λ items known.
     let start = c.new-writer.result.items in
     let bytes = c.in_ok-written.bytes.items in
     let h = c.in-Some.handles in
-    let written : IsTableOf f sizes (Some start) (Some bytes) h old new =
-    subst (λ o. IfSome o (λ handles. IsTableOf f sizes (Some start) (Some bytes) handles old new)) c.in-Some.is c.in_ok-written.ensures.table in
+    let written : IsTableOf (run_kind f) sizes (Some start) (Some bytes) h old new =
+    subst (λ o. IfSome o (λ handles. IsTableOf (run_kind f) sizes (Some start) (Some bytes) handles old new)) c.in-Some.is c.in_ok-written.ensures.table in
     let none = none_entries entry c.write_table.new.source.list (none_left (λ r. r.now) c.write_table.new.source.list c.peek.result c.peek.ensures.first (sym c.is_some.ensures ∙ c.if-is_some.false)) in
     let run = all_written f sizes start bytes h items old new written c.new-writer.ensures.items (ap (entries_in entry) c.in_ok-head.ensures.list ∙ known) none in
     c.in_ok-open_table.ensures run.blocks (c.layout_is_sound.ensures f run.blocks bytes h run.layout) ∙ ap (λ xs. Some (map plain xs)) run.is

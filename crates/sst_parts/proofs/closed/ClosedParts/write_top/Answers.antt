@@ -2,7 +2,7 @@ use Rattle.std.proofs.Common.{◌≡◌, ◌≤◌, ℕ, List, Option, length, a
 use Rattle.sstable_blocks.specs.Prelude.{HandleParts, entries, Handle, handles, IsOrdered}
 use Rattle.sstable_blocks.specs.SourceLaws.{if_ok_map}
 use Rattle.sst_parts.proofs.Writing.Closings.{parted_by, tops_ordered, tops_some}
-use Rattle.sst_parts.specs.PartWriting.{AppendsParted, AppendsTop, ClosedView}
+use Rattle.sst_parts.specs.PartWriting.{AppendsOpen, AppendsTop, ClosedView}
 use Rattle.sstable_blocks.specs.Blocks.{joined}
 use Rattle.sstable_blocks.specs.Run.{form}
 use Rattle.sst_parts.proofs.closed.ClosedParts.write_top.Goals as goal
@@ -17,16 +17,16 @@ encode_into_vec_with-requires-clause-ordered g c =
     let ordered = subst (λ (v : ClosedView). IsOrdered entries (joined (joined v.parts))) (sym c.self.view_is) c.requires.ordered in
     subst (λ (hs : List Handle). IsOrdered handles hs) (sym c.deref.ensures.value) (tops_ordered _ _ _ _ _ _ c.self.invariant ordered)
 
-pub returns-clause-layout : goal.returns-clause-layout
-returns-clause-layout g c =
+pub returns-clause-parts : goal.returns-clause-parts
+returns-clause-parts g c =
     let i = c.self.inside in
     let f = form g.H.BlockHash.hash64 g.H.BlockHash.hash128 i.config in
     let before = g.W.Write.contents c.args.writer.now in
-    let after = g.W.Write.contents c.end_file.new.writer in
+    let after = g.W.Write.contents c.write_index.new.writer in
     let p = c.in_ok-payload.payload.items in
     let ordered = subst (λ (v : ClosedView). IsOrdered entries (joined (joined v.parts))) (sym c.self.view_is) c.requires.ordered in
     let at : before ≡ i.after = c.requires.after ∙ sym (ap (λ (v : ClosedView). v.after) c.self.view_is) in
     let top = λ (h : HandleParts) (t : AppendsTop g.H.BlockHash.hash128 i.offset c.deref-2.result.now before after h). subst (λ (o : Option (List ℕ)). AppendsTop g.H.BlockHash.hash128 i.offset p o after h) at (subst (λ (xs : List ℕ). AppendsTop g.H.BlockHash.hash128 i.offset xs before after h) c.deref-2.ensures.value t) in
     let e = c.in_ok-payload.ensures in
-    subst (λ (v : ClosedView). IfOk c.end_file.result (λ h. AppendsParted (form g.H.BlockHash.hash64 g.H.BlockHash.hash128 v.config) v.parts v.start after h)) c.self.view_is
-    (if_ok_map c.end_file.result _ _ (λ h t. parted_by f i.parts i.start i.after i.tops.items i.offset c.self.invariant c.deref.result.now i.config.index_interval p after h c.deref.ensures.value refl ordered e.block e.payload (top h t)) c.end_file.ensures.top)
+    subst (λ (v : ClosedView). IfOk c.write_index.result (λ h. AppendsOpen (form g.H.BlockHash.hash64 g.H.BlockHash.hash128 v.config) v.parts v.start after h)) c.self.view_is
+    (if_ok_map c.write_index.result _ _ (λ h t. parted_by f i.parts i.start i.after i.tops.items i.offset c.self.invariant c.deref.result.now i.config.index_interval p after h c.deref.ensures.value refl ordered e.block e.payload (top h t)) c.write_index.ensures.top)

@@ -2,7 +2,7 @@ use Rattle.std.proofs.Common.{◌≡◌, ◌-◌, ◌++◌, ◌∷◌, [], ℕ, 
 use Rattle.std.proofs.lemmas.Result.{err_from_is_err_and}
 use Rattle.sstable_blocks.specs.Prelude.{Entry}
 use Rattle.sst_parts.proofs.Writing.Blocks.{follows_next, full_some, open_next}
-use Rattle.sst_parts.specs.PartWriting.{NextFits, PartFileFits, PartWriting, blocks_so_far, data_len, is_full}
+use Rattle.sst_parts.specs.PartWriting.{NextFits, PartEnds, PartWriting, blocks_so_far, data_len, is_full}
 use Rattle.sstable_blocks.specs.Run.{form}
 use Rattle.sstable_blocks.specs.RunLaws.{refusal_on}
 use Rattle.sstable_blocks.specs.Writing.{Follows}
@@ -19,8 +19,8 @@ returns-in_err-closed-clause-cause g c =
     let i = c.self.inside in
     let items = map g.T.AsEntry.entry c.args.items.now in
     let r = err_from_is_err_and c.from_residual-in_err-closed.result c.from_residual-in_err-closed.ensures.1 in
-    let fits : NextFits (form g.H.BlockHash.hash64 g.H.BlockHash.hash128 c.args.self.config) c.args.self items → PartFileFits (form g.H.BlockHash.hash64 g.H.BlockHash.hash128 i.closed.config) i.closed.offset i.run.blocks = λ n.
-    subst (λ (v : PartWriting g.row.W.Denot). PartFileFits (form g.H.BlockHash.hash64 g.H.BlockHash.hash128 v.config) v.offset v.current) (sym c.self.view_is) (n.closes (sym c.is_full-full.ensures ∙ c.in_err-closed.ensures.full))
+    let fits : NextFits (form g.H.BlockHash.hash64 g.H.BlockHash.hash128 c.args.self.config) c.args.self items → PartEnds (form g.H.BlockHash.hash64 g.H.BlockHash.hash128 i.closed.config) i.closed.parts i.run.blocks = λ n.
+    subst (λ (v : PartWriting g.row.W.Denot). PartEnds (form g.H.BlockHash.hash64 g.H.BlockHash.hash128 v.config) v.parts v.current) (sym c.self.view_is) (n.closes (sym c.is_full-full.ensures ∙ c.in_err-closed.ensures.full))
     in
     rw (r.1, r.2) (refusal_on _ _ _ c.in_err-closed.ensures.cause (λ no n. no (fits n)))
 
@@ -39,6 +39,7 @@ invariant_of-result g c =
     let follows = subst (λ (v : PartWriting g.row.W.Denot). Follows (blocks_so_far v) items) (sym c.self.view_is) c.requires in
     let a = c.in_ok-add_block.ensures in
     let blocks = c.push_chosen.ensures ∙ ap (λ (bs : List (List Entry)). bs ++ items ∷ []) c.blocks_before-blocks.ensures in
+    let is = subst (λ (v : PartWriting g.row.W.Denot). full ≡ is_full v.sizes v.current) (sym c.self.view_is) c.is_full-full.ensures in
     let left = c.spend.ensures ∙ ap (λ (n : ℕ). n - data_len items) c.left_before-left.ensures in
-    open_next i.closed c.in_ok-closed.closed i.run c.in_ok-closed.run' c.add_block.new.self i.sizes full i.blocks c.push_chosen.new.self i.end i.left c.spend.result items c.in_ok-last.last
+    open_next i.closed c.in_ok-closed.closed i.run c.in_ok-closed.run' c.add_block.new.self i.sizes full i.blocks c.push_chosen.new.self i.end i.left c.spend.result items c.in_ok-last.last (sym is)
     c.self.invariant c.in_ok-closed.ensures.next a.run a.refusal a.blocks follows c.in_ok-last.ensures.ok blocks left

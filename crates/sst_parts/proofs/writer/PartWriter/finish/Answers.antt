@@ -1,41 +1,19 @@
-use Rattle.std.proofs.Common.{◌++◌, ◌∷◌, [], List, sym, subst}
-use Rattle.std.proofs.lemmas.Result.{err_from_is_err_and}
-use Rattle.sstable_blocks.specs.Prelude.{Entry, entries, IsOrdered}
-use Rattle.sst_parts.proofs.Writing.Blocks.{ordered_push}
-use Rattle.sst_parts.specs.PartWriting.{AppendsParted, EndFits, PartWriting, TopFits}
-use Rattle.sstable_blocks.specs.Blocks.{joined}
+use Rattle.std.proofs.Common.{◌++◌, ◌∷◌, [], ap, ◌∙◌}
+use Rattle.sst_parts.proofs.Writing.Closings.{parted_ended}
+use Rattle.sstable_blocks.specs.Footer.{footer}
 use Rattle.sstable_blocks.specs.Run.{form}
-use Rattle.sstable_blocks.specs.RunLaws.{refusal_on}
-use Rattle.sstable_blocks.specs.declared.run.RunConfig.{RunConfig}
 use Rattle.sst_parts.proofs.writer.PartWriter.finish.Goals as goal
 
-pub write_top-requires-clause-ordered : goal.write_top-requires-clause-ordered
-write_top-requires-clause-ordered g c =
-    let i = c.self.inside in
-    subst (λ (ps : List (List (List Entry))). IsOrdered entries (joined (joined ps))) (sym c.in_ok-closed.ensures.closed.parts) (ordered_push i.closed.parts i.run.blocks c.self.invariant.ordered)
-
-pub returns-in_err-top-clause-cause : goal.returns-in_err-top-clause-cause
-returns-in_err-top-clause-cause g c =
-    let i = c.self.inside in
-    let h = λ (k : RunConfig). form g.H.BlockHash.hash64 g.H.BlockHash.hash128 k in
-    let k = c.in_ok-closed.ensures.closed in
-    let r = err_from_is_err_and c.from_residual-in_err-top.result c.from_residual-in_err-top.ensures.1 in
-    let top : EndFits (h c.args.self.config) c.args.self → TopFits (h c.in_ok-closed.closed.config) c.in_ok-closed.closed.parts = λ fits.
-    let a = subst (λ (v : PartWriting g.row.W.Denot). TopFits (h v.config) (v.parts ++ v.current ∷ [])) (sym c.self.view_is) fits.top in
-    let b = subst (λ (q : RunConfig). TopFits (h q) (i.closed.parts ++ i.run.blocks ∷ [])) (sym k.config) a in
-    subst (λ (ps : List (List (List Entry))). TopFits (h c.in_ok-closed.closed.config) ps) (sym k.parts) b
-    in
-    rw (r.1, r.2) (refusal_on _ _ _ c.in_err-top.ensures.cause (λ no fits. no (top fits)))
+pub returns-clause-layout : goal.returns-clause-layout
+returns-clause-layout g c =
+    let s = c.args.self in
+    let contents = g.W.Write.contents in
+    parted_ended (form g.H.BlockHash.hash64 g.H.BlockHash.hash128 s.config) (s.parts ++ s.current ∷ []) s.start (contents c.in_ok-top.writer) (contents c.put.new.self) c.in_ok-top.top _ c.in_ok-top.ensures.parts c.in_ok-put.ensures.ok
+    (c.encode_footer.ensures ∙ ap footer c.footer_handles.ensures)
 
 pub returns-clause-sound : goal.returns-clause-sound
 returns-clause-sound g c =
-    let i = c.self.inside in
-    let h = λ (k : RunConfig). form g.H.BlockHash.hash64 g.H.BlockHash.hash128 k in
-    let now = g.W.Write.contents c.write_top.new.writer in
-    let top = c.in_ok-top.top in
-    let k = c.in_ok-closed.ensures.closed in
-    let a = subst (λ (q : RunConfig). AppendsParted (h q) c.in_ok-closed.closed.parts c.in_ok-closed.closed.start now top) k.config c.in_ok-top.ensures.layout in
-    let b = subst (λ (ps : List (List (List Entry))). AppendsParted (h i.closed.config) ps c.in_ok-closed.closed.start now top) k.parts a in
-    let d = subst (λ o. AppendsParted (h i.closed.config) (i.closed.parts ++ i.run.blocks ∷ []) o now top) k.start b in
-    let l = subst (λ (v : PartWriting g.row.W.Denot). AppendsParted (h v.config) (v.parts ++ v.current ∷ []) v.start now top) c.self.view_is d in
-    (l.0, c.parted_layout_is_parted.ensures (h c.args.self.config) (c.args.self.parts ++ c.args.self.current ∷ []) l.0 top l.1, l.2)
+    let s = c.args.self in
+    let f = form g.H.BlockHash.hash64 g.H.BlockHash.hash128 s.config in
+    let l = returns-clause-layout g c in
+    (l.0, c.parted_layout_is_parted.ensures f (s.parts ++ s.current ∷ []) l.0 c.in_ok-top.top l.1, l.2)
