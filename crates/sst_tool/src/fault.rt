@@ -173,6 +173,11 @@ impl Fault {
         Fault::with_text(format!(in alloc; "{name}: {block} at offset {offset}: {error}"))
     }
 
+    /// Returns the fault of a line of the input.
+    pub fn of_line(alloc: Global, number: u64, why: &str) -> Fault {
+        Fault::with_text(format!(in alloc; "line {number} {why}"))
+    }
+
     /// Returns the fault of several files of which some failed.
     pub fn of_failed(alloc: Global, failed: usize, files: usize) -> Fault {
         Fault::with_text(format!(in alloc; "{failed} of {files} files failed"))

@@ -1,5 +1,5 @@
-//! The program `sstool` as a library: its words, and its commands, which show, check, scan and
-//! merge table files.
+//! The program `sstool` as a library: its words, and its commands, which show, check, scan, merge
+//! and write table files.
 #![tactic(auto)]
 
 mod blocks;
@@ -18,6 +18,7 @@ mod new_tables;
 mod observed;
 mod open;
 mod ordered;
+mod pack;
 mod parted;
 mod place;
 mod probes;
@@ -38,10 +39,10 @@ use hash::{TableHash, hash_read};
 pub use progress::Progress;
 use sstable_blocks::{BlockHash, LockFiles, Poly31, Xxh3};
 use std::alloc::Global;
-use std::io::Write;
+use std::io::{Read, Write};
 use std::rt::Clock;
 pub use words::{command, is_list};
-use words::{BLOCKS, CHECK, GET, INDEX, MERGE, SALVAGE, SCAN, STAT};
+use words::{BLOCKS, CHECK, GET, INDEX, MERGE, PACK, SALVAGE, SCAN, STAT};
 
 // Runs a command on tables of this hash function.
 fn run_on<H: BlockHash, R: LockFiles + Clock + Eprint, O: Write>(
@@ -64,21 +65,25 @@ fn run_on<H: BlockHash, R: LockFiles + Clock + Eprint, O: Write>(
     }
 }
 
-/// Runs the command of this name, of which these are the words.
+/// Runs the command of this name, of which these are the words, over an input and an output.
 ///
 /// # Errors
 ///
 /// The fault of a word, of a file, of the output, or of an allocation. What was printed before it
 /// stays.
-pub fn run_command<R: LockFiles + Clock + Eprint, O: Write>(
+pub fn run_command<R: LockFiles + Clock + Eprint, I: Read, O: Write>(
     progress: &Progress<'_, R>,
     alloc: Global,
     name: &str,
     words: &ArgMatches<'_>,
+    input: &mut I,
     output: &mut O,
 ) -> Result<(), Fault> {
     if name == CHECK {
         return check::run::<R, O>(progress, alloc, words, output);
+    }
+    if name == PACK {
+        return pack::run::<R, I, O>(progress.rt(), alloc, words, input, output);
     }
     let hash = hash_read(progress.rt(), alloc, name, words)?;
     match hash {

@@ -2,7 +2,7 @@
 ghost use Rattle.std.specs.Prelude.{◌≡◌, [], Some, OnOk};
 ghost use Rattle.std.specs.Option.{option_map};
 ghost use Rattle.sst_merge.specs.Outputs.{AreWritten};
-ghost use Rattle.sst_tool.specs.Merged.{staying_of};
+ghost use Rattle.sst_tool.specs.Merged.{kind_of, staying_of};
 ghost use Rattle.sstable_blocks.specs.Run.{form, IsWritable};
 
 use crate::fault::{Fault, Result};
@@ -11,11 +11,15 @@ use crate::long_keys::LongestKey;
 use crate::merged::{Files, Notes, Tables, Written, heads_of};
 use crate::new_tables::{Names, NewTables};
 use crate::progress::Progress;
-use crate::words::{BITS, BLOCK, BOTTOM, FILE, INTERVAL, LATEST, OUT, SNAPSHOT, TABLE_SIZE};
+use crate::words::{
+    BITS, BLOCK, BOTTOM, FILE, INTERVAL, LATEST, OUT, PART_SIZE, SNAPSHOT, TABLE_SIZE,
+};
 use clap::ArgMatches;
 use sst_merge::{Compact, Head, Merge, Outputs, Sizes, Source, write_tables};
+use sst_parts::{PartForm, PartSizes, PartWriter};
 use sstable_blocks::{
-    BlockHash, Error, HashRatio, InternalValue, LockFiles, Poly31, RunConfig, SeqNo, Xxh3,
+    BlockHash, Error, HashRatio, InternalValue, LockFiles, Poly31, RunConfig, RunWriter, SeqNo,
+    TableWriter, Xxh3,
 };
 use std::alloc::Global;
 use std::io;
@@ -35,6 +39,8 @@ pub struct TableForm {
     pub config: RunConfig,
     /// Where a block and a table end.
     pub sizes: Sizes,
+    /// The bytes of keys and values at which a part ends; 0 for tables without parts.
+    pub part_size: u64,
 }
 
 impl TableForm {
@@ -52,6 +58,23 @@ impl TableForm {
             sizes: Sizes {
                 block: block as usize,
                 table: table as usize,
+            },
+            part_size: words.get_one::<u64>(PART_SIZE).unwrap_or(0),
+        }
+    }
+
+    // How tables in parts are written.
+    fn parted(&self) -> PartForm
+        ensures { result ≡ record {
+          config = self.now.config;
+          sizes = record { blocks = 0; bytes = self.now.part_size };
+        } }
+    {
+        PartForm {
+            config: self.config,
+            sizes: PartSizes {
+                blocks: 0,
+                bytes: self.part_size,
             },
         }
     }
@@ -91,24 +114,50 @@ fn reads_of(alloc: Global, words: &ArgMatches<'_>) -> Result<Reads> {
     })
 }
 
-/// Writes what is left of a source as tables of a form.
+// Writes what is left of a source as tables of a kind.
+fn write_source<
+    K: TableWriter<InternalValue, Writer = O::Writer>,
+    I: Source<InternalValue> + Drop,
+    O: Outputs,
+>(
+    alloc: Global,
+    source: I,
+    form: K::Form,
+    sizes: Sizes,
+    tables: &mut O,
+) -> sstable_blocks::Result<()>
+    requires writable { K.writable form }
+    ensures written { OnOk result (AreWritten (K.kind form) sizes O.start (I.left source).list
+        (option_map (λ _. []) (I.left source).list) (O.tables tables.old) (O.tables tables.new)) }
+{
+    let mut head = Head::new(alloc, source)?;
+    write_tables::<K, InternalValue, I, O>(alloc, &mut head, tables, form, sizes)
+}
+
+/// Writes what is left of a source as tables of a form: with parts, or without.
 ///
 /// # Errors
 ///
 /// Those of the source and of the tables.
-pub fn write_source<H: BlockHash, I: Source<InternalValue> + Drop, O: Outputs>(
+pub fn write_as<H: BlockHash, I: Source<InternalValue> + Drop, O: Outputs>(
     alloc: Global,
     source: I,
     how: TableForm,
     tables: &mut O,
 ) -> sstable_blocks::Result<()>
     requires writable { IsWritable how.config }
-    ensures written { OnOk result (AreWritten (form H.hash64 H.hash128 how.config) how.sizes O.start
+    ensures written { OnOk result (AreWritten
+        (kind_of (form H.hash64 H.hash128 how.config) how.part_size) how.sizes O.start
         (I.left source).list (option_map (λ _. []) (I.left source).list) (O.tables tables.old)
         (O.tables tables.new)) }
 {
-    let mut head = Head::new(alloc, source)?;
-    write_tables::<H, InternalValue, I, O>(alloc, &mut head, tables, how.config, how.sizes)
+    let (config, sizes) = (how.config, how.sizes);
+    if how.part_size == 0 {
+        write_source::<RunWriter<H, O::Writer>, I, O>(alloc, source, config, sizes, tables)
+    } else {
+        let form = how.parted();
+        write_source::<PartWriter<H, O::Writer>, I, O>(alloc, source, form, sizes, tables)
+    }
 }
 
 // Merges tables, and writes what stays of them for the reads that may come.
@@ -121,7 +170,8 @@ fn write_merged<H: BlockHash, I: Source<InternalValue> + Drop, O: Outputs>(
     tables: &mut O,
 ) -> sstable_blocks::Result<()>
     requires writable { IsWritable how.config }
-    ensures written { OnOk result (AreWritten (form H.hash64 H.hash128 how.config) how.sizes O.start
+    ensures written { OnOk result (AreWritten
+        (kind_of (form H.hash64 H.hash128 how.config) how.part_size) how.sizes O.start
         (staying_of reads.snapshots.items reads.is_bottom heads.items)
         (option_map (λ _. []) (staying_of reads.snapshots.items reads.is_bottom heads.items))
         (O.tables tables.old) (O.tables tables.new)) }
@@ -129,7 +179,7 @@ fn write_merged<H: BlockHash, I: Source<InternalValue> + Drop, O: Outputs>(
     let merged = Merge::new(heads);
     let staying = Compact::new(merged, reads.snapshots, reads.is_bottom);
     let written = Written::new(staying, notes);
-    write_source::<H, _, O>(alloc, written, how, tables)
+    write_as::<H, _, O>(alloc, written, how, tables)
 }
 
 // Merges tables of which the first entries were read, and writes what stays of them.
@@ -238,11 +288,11 @@ fn merge_into<'p, H: BlockHash, N: BlockHash, R: LockFiles + Clock + Eprint>(
 }
 
 /// Merges tables, the newest first, into one, or with `--table-size` into several of this size,
-/// which are put under their names when all are whole. With `--snapshot`, which may be given
-/// several times, only versions stay that a read at one of these sequence numbers, or at or above
-/// all of them, sees, with `--latest` of each key the newest; with `--bottom` no tombstones of
-/// these that hide nothing; with `--hash` the new tables have this hash function; `--block`,
-/// `--interval` and `--bits` say how they are cut and encoded.
+/// which are put under their names when all are whole; with `--part` each in parts. With
+/// `--snapshot`, which may be given several times, only versions stay that a read at one of these
+/// sequence numbers, or at or above all of them, sees, with `--latest` of each key the newest; with
+/// `--bottom` no tombstones of these that hide nothing; with `--hash` the new tables have this hash
+/// function; `--block`, `--interval` and `--bits` say how they are cut and encoded.
 ///
 /// # Errors
 ///

@@ -6,7 +6,7 @@ use crate::blocks::{Held, held_in};
 use crate::fault::{Fault, Result, Shown};
 use crate::frames::add_frames;
 use crate::long_keys::LongestKey;
-use crate::merge::{TableForm, write_source};
+use crate::merge::{TableForm, write_as};
 use crate::merged::count;
 use crate::new_tables::NewTables;
 use crate::open::source_of;
@@ -313,7 +313,7 @@ fn write_blocks<H: BlockHash, S: FrameSource + Drop, R: LockFiles + Clock + Epri
         most: u64::MAX,
         ended: None,
     };
-    match write_source::<H, _, _>(alloc, salvaged, how, tables) {
+    match write_as::<H, _, _>(alloc, salvaged, how, tables) {
         Ok(()) if tables.count() == 0 => Err(Fault::NoEntries),
         Ok(()) => Ok(()),
         Err(error) => Err(tables.fault(error)),

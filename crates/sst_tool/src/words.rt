@@ -25,6 +25,9 @@ pub const INDEX: &str = "index";
 /// The name of the command that merges tables.
 pub const MERGE: &str = "merge";
 
+/// The name of the command that writes the entries of the input.
+pub const PACK: &str = "pack";
+
 /// The name of the command that writes what a damaged table still holds.
 pub const SALVAGE: &str = "salvage";
 
@@ -60,6 +63,9 @@ pub const BLOCK: &str = "block";
 
 /// The name of the option for the size at which a table ends.
 pub const TABLE_SIZE: &str = "table-size";
+
+/// The name of the option for the size at which a part ends.
+pub const PART_SIZE: &str = "part";
 
 /// The name of the option for the restart interval.
 pub const INTERVAL: &str = "interval";
@@ -205,7 +211,36 @@ const FILTER_BITS: Word = (
     "The filter's bits for a key, 0 for no filter; else 10",
 );
 
-const MERGE_WORDS: [Word; 11] = [
+const PARTS: Word = (
+    PART_SIZE,
+    Kind::Size,
+    "Write tables in parts, each of which ends at this many bytes of keys and values; 0 for \
+    none",
+);
+
+const TABLES: Word = (
+    TABLE_SIZE,
+    Kind::Size,
+    "Write several tables, each of which ends at this many bytes of encoded entries; their \
+    numbers, from 1 on, are in OUT in the place of {}, or behind a dot at its end",
+);
+
+const PACK_WORDS: [Word; 8] = [
+    NEW_TABLE,
+    REPLACED,
+    (
+        HASH,
+        Kind::Hash,
+        "The hash function of the new table; else poly31",
+    ),
+    TABLES,
+    PARTS,
+    BLOCK_SIZE,
+    RESTARTS,
+    FILTER_BITS,
+];
+
+const MERGE_WORDS: [Word; 12] = [
     NEW_TABLE,
     (FILE, Kind::Several, "Table files, the newest first"),
     REPLACED,
@@ -229,28 +264,25 @@ const MERGE_WORDS: [Word; 11] = [
         Kind::Flag,
         "Drop the tombstones that no read sees past: no older table is below",
     ),
-    (
-        TABLE_SIZE,
-        Kind::Size,
-        "Write several tables, each of which ends at this many bytes of encoded entries; their \
-        numbers, from 1 on, are in OUT in the place of {}, or behind a dot at its end",
-    ),
+    TABLES,
+    PARTS,
     BLOCK_SIZE,
     RESTARTS,
     FILTER_BITS,
 ];
 
-const SALVAGE_WORDS: [Word; 7] = [
+const SALVAGE_WORDS: [Word; 8] = [
     NEW_TABLE,
     TABLE,
     REPLACED,
     TABLE_HASH,
+    PARTS,
     BLOCK_SIZE,
     RESTARTS,
     FILTER_BITS,
 ];
 
-const COMMANDS: [Rules; 8] = [
+const COMMANDS: [Rules; 9] = [
     (STAT, "Prints what a table holds", &STAT_WORDS, ""),
     (SCAN, "Prints the entries of a table", &SCAN_WORDS, ""),
     (GET, "Prints the newest version of a key", &GET_WORDS, ""),
@@ -278,6 +310,13 @@ const COMMANDS: [Rules; 8] = [
         "Merges tables into one",
         &MERGE_WORDS,
         "OUT is put in place whole, or stays as it was. The status is 3 where no entry is left.",
+    ),
+    (
+        PACK,
+        "Packs the entries of standard input, one a line and in order, into a table",
+        &PACK_WORDS,
+        "A line is C S K V: the type (V, T, W or I), the sequence number, key and value in hex, - \
+        for an empty one. OUT is put in place whole, or stays as it was.",
     ),
     (
         SALVAGE,

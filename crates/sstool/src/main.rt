@@ -39,7 +39,8 @@ fn run<O: Write, F: Write>(
         return Ok(2);
     };
     let progress = progress_of(rt, name);
-    let outcome = run_command(&progress, alloc, name, words, output);
+    let mut input = rt.stdin();
+    let outcome = run_command(&progress, alloc, name, words, &mut input, output);
     progress.clear();
     match outcome {
         Ok(()) => Ok(0),

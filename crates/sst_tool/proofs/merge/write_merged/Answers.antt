@@ -6,14 +6,14 @@ use Rattle.sstable_blocks.specs.Run.{form}
 use Rattle.sst_merge.specs.Compact.{compacted}
 use Rattle.sst_merge.specs.Outputs.{AreWritten}
 use Rattle.sst_merge.specs.Sources.{Left, left_as}
-use Rattle.sst_tool.specs.Merged.{staying_of}
+use Rattle.sst_tool.specs.Merged.{kind_of, staying_of}
 use Rattle.sst_tool.proofs.merge.write_merged.Goals as goal
 
 pub returns : goal.returns
 returns g c =
-    let f = form g.H.BlockHash.hash64 g.H.BlockHash.hash128 c.args.how.config in
+    let k = kind_of (form g.H.BlockHash.hash64 g.H.BlockHash.hash128 c.args.how.config) c.args.how.part_size in
     let kept = left_as (compacted (λ (e : Entry). e) c.args.reads.snapshots.items (λ _. c.args.reads.is_bottom)) None in
     let same : c.new-written.result.source.list ≡ staying_of c.args.reads.snapshots.items c.args.reads.is_bottom c.args.heads.items =
     ap (λ (s : Left Entry). s.list) (c.new-written.ensures ∙ c.new-staying.ensures ∙ ap kept c.new-merged.ensures) in
-    let P = λ (left : Option (List Entry)). OnOk c.write_source.result (AreWritten f c.args.how.sizes g.O.Outputs.start left (option_map (λ _. []) left) (g.O.Outputs.tables c.args.tables.now) (g.O.Outputs.tables c.write_source.new.tables)) in
-    record { written = subst P same c.write_source.ensures.written }
+    let P = λ (left : Option (List Entry)). OnOk c.write_as.result (AreWritten k c.args.how.sizes g.O.Outputs.start left (option_map (λ _. []) left) (g.O.Outputs.tables c.args.tables.now) (g.O.Outputs.tables c.write_as.new.tables)) in
+    record { written = subst P same c.write_as.ensures.written }
