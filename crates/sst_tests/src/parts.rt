@@ -286,19 +286,52 @@ fn opened(
     Ok(PartedTable::open_file(alloc, source)?)
 }
 
+// How many steps of a scan of the keys from one up to another are wrong.
+fn wrong_between(
+    alloc: Global,
+    scan: &mut PartedScan<'_, ByteSum, MemorySource>,
+    first: u8,
+    last: u8,
+    pattern: u64,
+) -> sst_base::Result<u64> {
+    let wanted = wanted(alloc, first, last)?;
+    wrong_steps(alloc, scan, &wanted, pattern)
+}
+
 // How many steps of a scan of all keys are wrong.
-fn wrong_in_all(alloc: Global, len: usize, blocks: usize, pattern: u64) -> sst_base::Result<u64> {
-    let wanted = wanted(alloc, 0, 12)?;
-    let mut scan = opened(alloc, len, blocks)?.scan();
-    wrong_steps(alloc, &mut scan, &wanted, pattern)
+fn wrong_in_all(
+    alloc: Global,
+    table: PartedTable<ByteSum, MemorySource>,
+    pattern: u64,
+) -> sst_base::Result<u64> {
+    let mut scan = table.scan();
+    wrong_between(alloc, &mut scan, 0, 12, pattern)
 }
 
 // How many steps of a scan of the keys behind the second one, up to the fifth, are wrong.
-fn wrong_in_range(alloc: Global, len: usize, blocks: usize, pattern: u64) -> sst_base::Result<u64> {
-    let wanted = wanted(alloc, 4, 9)?;
-    let table = opened(alloc, len, blocks)?;
+fn wrong_in_range(
+    alloc: Global,
+    table: PartedTable<ByteSum, MemorySource>,
+    pattern: u64,
+) -> sst_base::Result<u64> {
     let mut scan = table.scan_range(Bound::Excluded(b"k\x03"), Bound::Included(b"k\x09"));
-    wrong_steps(alloc, &mut scan, &wanted, pattern)
+    wrong_between(alloc, &mut scan, 4, 9, pattern)
+}
+
+// How many steps of a scan of all keys, or of some, are wrong.
+fn wrong_scanned(
+    alloc: Global,
+    len: usize,
+    blocks: usize,
+    pattern: u64,
+    is_all: bool,
+) -> sst_base::Result<u64> {
+    let table = opened(alloc, len, blocks)?;
+    if is_all {
+        wrong_in_all(alloc, table, pattern)
+    } else {
+        wrong_in_range(alloc, table, pattern)
+    }
 }
 
 // Lengths of blocks, blocks of a part, and patterns.
@@ -314,8 +347,8 @@ const SCANS: [(usize, usize, u64); 6] = [
 #[test]
 fn parts_are_scanned_from_both_ends(rt: HostRuntime) {
     for (len, blocks, pattern) in &SCANS {
-        assert!(rt; wrong_in_all(rt.alloc(), *len, *blocks, *pattern) == Ok(0));
-        assert!(rt; wrong_in_range(rt.alloc(), *len, *blocks, *pattern) == Ok(0));
+        assert!(rt; wrong_scanned(rt.alloc(), *len, *blocks, *pattern, true) == Ok(0));
+        assert!(rt; wrong_scanned(rt.alloc(), *len, *blocks, *pattern, false) == Ok(0));
     }
 }
 

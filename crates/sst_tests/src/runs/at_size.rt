@@ -7,7 +7,7 @@ use crate::runs::many::counts_of;
 use crate::runs::written::write_in_blocks;
 use sst_base::{ByteSum, Error, InternalValue, Result, Slice, Steps, ValueType};
 use sstable_blocks::run::{RunConfig, RunHandles};
-use sstable_blocks::{MemorySource, Table};
+use sstable_blocks::{MemorySource, Scan, Table};
 use std::alloc::Global;
 
 /// How many blocks the run has, each of one entry.
@@ -43,13 +43,30 @@ fn write_blocks(alloc: Global, blocks: u32, len: usize) -> Result<(RunHandles, V
     write_in_blocks(alloc, Vec::new(alloc), list.as_slice(), 1, config)
 }
 
+/// Whether a read of a table finds a key.
+fn is_found(alloc: Global, table: &mut Table<ByteSum, MemorySource>, key: &[u8]) -> Result<bool> {
+    Ok(table.get(alloc, key, 2, &mut Steps::new())?.is_some())
+}
+
+/// Whether a step of a scan from the back gives an entry.
+fn gives_last(alloc: Global, scan: &mut Scan<'_, ByteSum, MemorySource>) -> Result<bool> {
+    Ok(scan.next_entry_back(alloc)?.is_some())
+}
+
+/// Whether a scan of a table from the back gives its last entry.
+fn has_last(alloc: Global, table: Table<ByteSum, MemorySource>) -> Result<bool> {
+    let mut scan = table.scan();
+    gives_last(alloc, &mut scan)
+}
+
 /// Whether a read of a table finds a key, and a scan from the back gives its last entry.
 fn is_read(alloc: Global, table: Table<ByteSum, MemorySource>, key: &[u8]) -> Result<bool> {
     let mut table = table;
-    let found = table.get(alloc, key, 2, &mut Steps::new())?.is_some();
-    let mut scan = table.scan();
-    let last = scan.next_entry_back(alloc)?;
-    Ok(found && last.is_some())
+    if is_found(alloc, &mut table, key)? {
+        has_last(alloc, table)
+    } else {
+        Ok(false)
+    }
 }
 
 /// Writes such a run, and reads it as a table in memory by its first and its last key. Returns how

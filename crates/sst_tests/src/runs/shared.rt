@@ -3,7 +3,7 @@ use crate::Tested;
 use crate::runs::lists::NO_BUCKETS;
 use crate::runs::written::{Entry, list_of, write_in_blocks};
 use sst_base::{ByteSum, InternalValue, Result, Slice};
-use sstable_blocks::run::{RunConfig, RunHandles, RunRef};
+use sstable_blocks::run::{RunConfig, RunHandles, RunRef, SharedScan};
 use std::alloc::Global;
 
 /// Entries in two blocks, with keys and values that are held in place and longer ones.
@@ -38,7 +38,34 @@ fn parts_of(entry: &Option<InternalValue>) -> (u64, usize, usize) {
     }
 }
 
-/// What the steps of a scan give, each from the front or from the back.
+/// What a step of a scan gives, from the front or from the back.
+fn step_of(
+    alloc: Global,
+    scan: &mut SharedScan<'_, '_, ByteSum>,
+    back: bool,
+) -> Result<(u64, usize, usize)> {
+    let entry = if back {
+        scan.next_entry_back(alloc)?
+    } else {
+        scan.next_entry(alloc)?
+    };
+    Ok(parts_of(&entry))
+}
+
+/// What steps of a scan give.
+fn steps_of(
+    alloc: Global,
+    scan: &mut SharedScan<'_, '_, ByteSum>,
+    backs: &[bool],
+) -> Result<Vec<(u64, usize, usize)>> {
+    let mut made = Vec::new(alloc);
+    for back in backs {
+        made.push(step_of(alloc, scan, *back)?)?;
+    }
+    Ok(made)
+}
+
+/// What the steps of a scan of a run give, each from the front or from the back.
 fn made_of(
     alloc: Global,
     bytes: &Slice,
@@ -47,16 +74,7 @@ fn made_of(
 ) -> Result<Vec<(u64, usize, usize)>> {
     let (run, _) = RunRef::<ByteSum>::check(alloc, bytes.as_slice(), handles)?;
     let mut scan = run.scan_shared(bytes);
-    let mut made = Vec::new(alloc);
-    for back in backs {
-        let entry = if *back {
-            scan.next_entry_back(alloc)?
-        } else {
-            scan.next_entry(alloc)?
-        };
-        made.push(parts_of(&entry))?;
-    }
-    Ok(made)
+    steps_of(alloc, &mut scan, backs)
 }
 
 #[test]
