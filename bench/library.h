@@ -67,6 +67,15 @@ uint64_t sst_table_get(const uint8_t* entries, size_t entries_len, size_t count,
                        uint8_t interval, uint32_t num, uint32_t den, uint32_t bits,
                        uint64_t times, const uint8_t* needles, size_t needles_len,
                        size_t key_len);
+uint64_t sst_table_read(const uint8_t* entries, size_t entries_len, size_t count, size_t per_block,
+                        uint64_t times, const uint8_t* needles, size_t needles_len,
+                        size_t key_len);
+uint64_t sst_table_read_many(const uint8_t* entries, size_t entries_len, size_t count,
+                             size_t per_block, uint64_t times, const uint8_t* needles,
+                             size_t needles_len, size_t key_len);
+uint64_t sst_table_read_cached(const uint8_t* entries, size_t entries_len, size_t count,
+                               size_t per_block, uint64_t times, const uint8_t* needles,
+                               size_t needles_len, size_t key_len);
 uint64_t sst_table_scan(const uint8_t* entries, size_t entries_len, size_t count,
                         size_t per_block, uint8_t interval, uint32_t num, uint32_t den,
                         uint32_t bits, uint64_t times);

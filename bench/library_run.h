@@ -44,6 +44,18 @@ class LibraryRun {
     return sst_views_find(At(bytes_), bytes_.size(), count_, kPerBlock, kRunInterval, 0, 100, kRunBits, times,
                           At(needles), needles.size(), kKeyLen);
   }
+  // Reads of a table whose blocks are verified and checked: one by one, together, or through a cache of all blocks.
+  uint64_t Read(const std::string& needles, uint64_t times) const {
+    return sst_table_read(At(bytes_), bytes_.size(), count_, kPerBlock, times, At(needles), needles.size(), kKeyLen);
+  }
+  uint64_t ReadMany(const std::string& needles, uint64_t times) const {
+    return sst_table_read_many(At(bytes_), bytes_.size(), count_, kPerBlock, times, At(needles), needles.size(),
+                               kKeyLen);
+  }
+  uint64_t ReadCached(const std::string& needles, uint64_t times) const {
+    return sst_table_read_cached(At(bytes_), bytes_.size(), count_, kPerBlock, times, At(needles), needles.size(),
+                                 kKeyLen);
+  }
   // Hashes and checks, or walks over, the blocks alone.
   uint64_t CheckBlocks(uint64_t times) const {
     return sst_blocks_check(At(bytes_), bytes_.size(), count_, kPerBlock, kRunInterval, 0, 100, times);

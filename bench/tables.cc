@@ -1,5 +1,6 @@
 // Prints what reads, scans, merges, compactions and the check of a table in memory cost beside their parts, and beside
 // LevelDB's.
+#include <algorithm>
 #include <cstdio>
 #include <cstdlib>
 #include <string>
@@ -16,10 +17,17 @@ using namespace bench;
 
 constexpr size_t kCount = 100000;
 constexpr size_t kTables = 8;
+constexpr size_t kMany = 1000;
 
 void Must(uint64_t answer, const char* name) {
   if (answer != kRefused) return;
   fprintf(stderr, "tables: %s: refused\n", name);
+  exit(1);
+}
+
+void Same(bool holds, const char* name) {
+  if (holds) return;
+  fprintf(stderr, "tables: %s: the answers differ\n", name);
   exit(1);
 }
 
@@ -40,6 +48,32 @@ void PrintReads(const Entries& entries, const LibraryRun& run) {
   Print("find of a key that is there in a trusted table, beside read_entry", kNeedles,
         [&](uint64_t times) { return run.Find(entries.hits, times); },
         [&](uint64_t times) { return run.Get(entries.hits, times); });
+}
+
+// So many of the needles, in order.
+std::string InOrder(const std::string& needles, size_t count) {
+  std::vector<std::string> keys;
+  for (size_t i = 0; i < count; ++i) keys.push_back(needles.substr(i * kKeyLen % needles.size(), kKeyLen));
+  std::sort(keys.begin(), keys.end());
+  std::string all;
+  for (const std::string& key : keys) all += key;
+  return all;
+}
+
+// Reads of a table whose blocks are verified and checked.
+void PrintCheckedReads(const Entries& entries, const LibraryRun& run) {
+  Print("get through a cache that keeps the block, beside a trusted table", kNeedles,
+        [&](uint64_t times) { return run.ReadCached(entries.hits, times); },
+        [&](uint64_t times) { return run.TableGet(entries.hits, times); });
+  const std::string spread = InOrder(entries.hits, kMany);
+  const std::string next = entries.Keys().substr(0, kMany * kKeyLen);
+  for (const std::string& keys : {spread, next}) {
+    Same(run.ReadMany(keys, 1) == run.Read(keys, 1) && run.ReadCached(keys, 1) == run.Read(keys, 1), "reads");
+    Print(keys == next ? "get_many of 1,000 keys that follow each other, a key, beside get of each"
+                       : "get_many of 1,000 keys in order from all of the table, a key, beside get of each",
+          kMany, [&](uint64_t times) { return run.ReadMany(keys, times); },
+          [&](uint64_t times) { return run.Read(keys, times); });
+  }
 }
 
 // The payload of the filter of keys of 16 bytes.
@@ -127,12 +161,6 @@ void PrintCompactions(const LibraryRun& run, const LevelMerge& other) {
   }
 }
 
-void Same(bool holds, const char* name) {
-  if (holds) return;
-  fprintf(stderr, "tables: %s: the answers differ\n", name);
-  exit(1);
-}
-
 // Scans and merges give the same entries, LevelDB's merge as many; both compactions write the same table.
 void Compare(const LibraryRun& run, const LevelMerge& other) {
   const uint64_t sum = run.Scan(false, 1);
@@ -155,6 +183,7 @@ int main() {
   const LevelMerge other(entries.list, kTables);
   Compare(run, other);
   PrintReads(entries, run);
+  PrintCheckedReads(entries, run);
   PrintChecks(entries, run);
   PrintScans(run);
   PrintMerges(parts, run);

@@ -16,6 +16,7 @@ pub mod handles;
 mod hash;
 pub mod index_block;
 pub mod keys;
+pub mod many;
 pub mod merges;
 pub mod run;
 pub mod sums;

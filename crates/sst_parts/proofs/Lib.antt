@@ -2,5 +2,4 @@ mod Writing
 mod Reading
 mod Scanning
 mod Cached
-mod ManyReads
 mod Checks

@@ -1,10 +1,7 @@
 -- Reads of parted tables: ranges of parts, openings and point reads.
 pub mod AnyOpenings
-pub mod CheckedReads
-pub mod Counts
 pub mod FileOpenings
-pub mod Located
+pub mod OpenParts
 pub mod Openings
 pub mod PartReads
 pub mod Places
-pub mod Ranges

@@ -1,19 +1,22 @@
 -- Tables of either kind: what is kept of a file, and what is read of it.
-use Rattle.std.specs.Prelude.{◌≡◌, ℕ, ◌+◌, ◌<◌, List, Option, Result, Ok, Err}
+use Rattle.std.specs.Prelude.{◌≡◌, ℕ, ◌+◌, ◌<◌, List, map, Option, None, Result, Ok, Err}
 use Rattle.sstable_blocks.specs.Prelude.{HandleParts, Counted, CountsBetween, Entry, Handle, handles}
 use Rattle.sstable_blocks.specs.Results.{Error, InvalidTag}
+use Rattle.sst_parts.specs.PartReaders.{needles_frames, read_open_by_top}
 use Rattle.sst_parts.specs.Parts.{FindsInParts, IsParted, parted_frames, parted_most, read_by_top, tops_by_footer, tops_frames}
 use Rattle.sst_parts.specs.declared.any_table.AnyTable.{AnyTable}
 use Rattle.sst_parts.specs.declared.any_table.AnyTable.TheVariants.{Plain, Parted}
 use Rattle.sstable_blocks.specs.Blocks.{joined}
 use Rattle.sstable_blocks.specs.FrameCounts.{file_frames}
 use Rattle.sstable_blocks.specs.Lookup.{handle_for}
+use Rattle.sstable_blocks.specs.ManyReads.{many_frames, needle_place}
 use Rattle.sstable_blocks.specs.ReadCosts.{CountsRead}
 use Rattle.sstable_blocks.specs.RunReading.{Hashes, read_checked}
 use Rattle.sstable_blocks.specs.Sound.{FindsFirst, IsSound}
 use Rattle.sstable_blocks.specs.Sources.{AsksExactly, AsksUpTo}
-use Rattle.sstable_blocks.specs.Tables.{LooksBy, frames_by, kept_by_footer, kept_says}
+use Rattle.sstable_blocks.specs.Tables.{LooksBy, frames_by, kept_by_footer, kept_parts, kept_says}
 use Rattle.sstable_blocks.specs.declared.run.RunHandles.{RunHandles}
+use Rattle.sstable_blocks.specs.declared.run.many.Needle.{Needle}
 use Rattle.sstable_blocks.specs.declared.run.table.OpenError.{OpenError}
 
 -- what is kept of a table: the handles, the filter and the index of a plain one, the handle of the index and the parts of a
@@ -75,6 +78,16 @@ any_error_after (Err e) = Err e.error
 abbrev pub read_any : {H S : Type 0} → Hashes → List ℕ → AnyTable H S → List ℕ → ℕ → Result (Option Entry) Error
 read_any c bytes (Plain t) needle seqno = read_checked c bytes t.handles needle seqno
 read_any c bytes (Parted t) needle seqno = read_by_top c bytes (handle_for handles needle seqno t.tops) needle seqno
+
+-- the same where a part stays open
+abbrev pub read_open_any : {H S : Type 0} → Hashes → List ℕ → AnyTable H S → Needle → Result (Option Entry) Error
+read_open_any c bytes (Plain t) n = read_checked c bytes t.handles n.key.now n.seqno
+read_open_any c bytes (Parted t) n = read_open_by_top c bytes (handle_for handles n.key.now n.seqno t.tops) n.key.now n.seqno
+
+-- the most frames that reads of needles ask for, one after the other
+abbrev pub needles_frames_of_any : {H S : Type 0} → (List ℕ → ℕ) → AnyTable H S → List Needle → ℕ
+needles_frames_of_any hash64 (Plain t) ns = many_frames None (map (needle_place hash64 (kept_parts t)) ns)
+needles_frames_of_any hash64 (Parted t) ns = needles_frames t.tops None ns
 
 -- of bytes that are such a table, a result is the first match of its entries
 abbrev pub FindsInAny : {H S : Type 0} → Hashes → AnyTable H S → List ℕ → ℕ → Result (Option Entry) Error → List ℕ → Type 0

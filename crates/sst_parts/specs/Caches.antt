@@ -5,7 +5,7 @@ use Rattle.std.specs.Map.{lookup}
 use Rattle.lru.specs.LruCache.{promoted}
 use Rattle.sstable_blocks.specs.Prelude.{Counted, CountsBetween, Entry, DataBlockParts, Handle, digits}
 use Rattle.sstable_blocks.specs.Results.{Error}
-use Rattle.sst_parts.specs.ManyReads.{IsBlockAt}
+use Rattle.sstable_blocks.specs.ManyReads.{IsBlockAt}
 use Rattle.sstable_blocks.specs.Opened.{range_of}
 use Rattle.sstable_blocks.specs.ReadCosts.{CountsGrow, entries_at, heads_at, most_by}
 use Rattle.sstable_blocks.specs.RunReading.{Hashes, read_block}

@@ -2,8 +2,8 @@ pub mod AnyScans
 pub mod AnyLaws
 pub mod AnyTables
 pub mod Caches
-pub mod ManyReads
 pub mod Parts
+pub mod PartReaders
 pub mod PartScans
 pub mod PartWriting
 pub mod PartKinds

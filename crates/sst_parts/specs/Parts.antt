@@ -11,15 +11,12 @@ use Rattle.sstable_blocks.specs.Lookup.{IsEnd, handle_for}
 use Rattle.sstable_blocks.specs.Opened.{range_of}
 use Rattle.sstable_blocks.specs.ReadCosts.{find_cost, heads_most_in, entries_most_in}
 use Rattle.sstable_blocks.specs.Run.{IsFramed}
+use Rattle.sstable_blocks.specs.RunPlaces.{part_in}
 use Rattle.sstable_blocks.specs.RunReading.{Hashes, IsFramedAt, range_at, payload_at, read_checked}
 use Rattle.sstable_blocks.specs.Sound.{AreContiguous, IsSound}
 use Rattle.sstable_blocks.specs.Walks.{frames_after}
 use Rattle.sstable_blocks.specs.declared.run.RunHandles.{RunHandles}
 use Rattle.sstable_blocks.specs.declared.run.table.OpenError.{OpenError}
-
--- the bytes in the range of a handle
-abbrev pub part_in : List ℕ → HandleParts → List ℕ
-part_in bytes h = take h.size (drop h.offset bytes)
 
 -- in the range of a handle is a table file: a sound run of these blocks, and the footer that says where its index and its
 -- filter are; the handle has the key and the sequence number of the last entry
@@ -83,14 +80,6 @@ read_part c bytes g needle seqno = do
 abbrev pub read_by_top : Hashes → List ℕ → Option Handle → List ℕ → ℕ → Result (Option Entry) Error
 read_by_top c bytes None needle seqno = Ok None
 read_by_top c bytes (Some h) needle seqno = read_part c bytes (range_of h) needle seqno
-
--- a part ends below 2^64, and inside the bytes of a source, if these are known
-abbrev pub IsInside : HandleParts → Option (List ℕ) → Type 0
-IsInside g bytes = (g.offset + g.size < 2 ^ 64) × IfSome bytes (λ all. g.offset + g.size ≤ length all)
-
--- the bytes of the part in a range of a source, if the source's are known
-abbrev pub part_bytes : {S : Type 0} → (S → Option (List ℕ)) → HandleParts → S → Option (List ℕ)
-part_bytes bytes g s = option_map (λ all. part_in all g) (bytes s)
 
 -- what contracts see of a parted table: the source, the handle of the index of its parts, the handles of the parts, and
 -- the restart interval of that index

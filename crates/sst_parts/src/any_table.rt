@@ -3,14 +3,17 @@ ghost use Rattle.std.specs.Prelude.{◌≡◌, ◌<◌, ◌↔◌, Ok, IfSome, I
 ghost use Rattle.sst_parts.specs.AnyTables.{AsksOfAny, CountsAny, FindsInAny, IsOtherType};
 ghost use Rattle.sst_parts.specs.AnyTables.{IsPartedOf, LooksInAny, any_by_footer, any_error_after};
 ghost use Rattle.sst_parts.specs.AnyTables.{any_frames, any_source_after, index_of, kept_in};
-ghost use Rattle.sst_parts.specs.AnyTables.{read_any, source_in, with_source};
+ghost use Rattle.sst_parts.specs.AnyTables.{needles_frames_of_any, read_any, read_open_any};
+ghost use Rattle.sst_parts.specs.AnyTables.{source_in, with_source};
 ghost use Rattle.sst_parts.specs.Parts.{tops_by_footer, tops_frames};
+ghost use Rattle.sstable_blocks.specs.ManyReads.{read_each};
 ghost use Rattle.sstable_blocks.specs.RunReading.{hashes};
-ghost use Rattle.sstable_blocks.specs.Sources.{AsksAny, AsksAs, FailsAs, ReadsAs, UsesSource};
+ghost use Rattle.sstable_blocks.specs.Sources.{AsksAny, AsksAs, AsksUpTo, FailsAs};
+ghost use Rattle.sstable_blocks.specs.Sources.{ReadsAs, UsesSource};
 
 use crate::table::PartedTable;
 use sstable_blocks::run::{FrameSource, OpenError, SizedSource, Table};
-use sstable_blocks::{BlockHash, Error, IndexBlock, InternalValue, Result, SeqNo, Steps};
+use sstable_blocks::{BlockHash, Error, IndexBlock, InternalValue, Needle, Result, SeqNo, Steps};
 use std::alloc::Global;
 
 /// A table in a source: plain, or parted.
@@ -114,6 +117,32 @@ impl<H: BlockHash, S: FrameSource> AnyTable<H, S> {
         match self {
             AnyTable::Plain(table) => table.get(alloc, needle, seqno, steps),
             AnyTable::Parted(table) => table.get(alloc, needle, seqno, steps),
+        }
+    }
+
+    /// Returns for each needle the first entry with its key below its bound, in the order of the
+    /// needles, as [`Table::get_many`] or [`PartedTable::get_many`] does.
+    ///
+    /// # Errors
+    ///
+    /// Those of [`Table::get_many`] or [`PartedTable::get_many`].
+    pub fn get_many(
+        &mut self,
+        alloc: Global,
+        needles: &[Needle<'_>],
+        steps: &mut Steps,
+    ) -> Result<Vec<Option<InternalValue>>>
+        ensures kept { self.new ≡ with_source self.old (source_in self.new) }
+        ensures source { UsesSource S.bytes S.failures S.reads S.is_reliable
+            (AsksUpTo (needles_frames_of_any H.hash64 self.old needles.now)) (source_in self.old)
+            (source_in self.new) result }
+        ensures exact { ReadsAs S.bytes S.failures S.is_reliable (source_in self.old)
+            (source_in self.new) (λ v. v.items) result (λ all. read_each
+            (read_open_any (hashes H.hash64 H.hash128) all self.old) needles.now) }
+    {
+        match self {
+            AnyTable::Plain(table) => table.get_many(alloc, needles, steps),
+            AnyTable::Parted(table) => table.get_many(alloc, needles, steps),
         }
     }
 

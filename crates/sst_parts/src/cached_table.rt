@@ -5,15 +5,14 @@ ghost use Rattle.std.specs.Prelude.{slice_get};
 ghost use Rattle.sst_parts.specs.Caches.{IsAdded, IsReadOf, KeepsRead, LeavesCache, ReadsBy};
 ghost use Rattle.sst_parts.specs.Caches.{ReadsPlace};
 ghost use Rattle.sst_parts.specs.Caches.{cached_frames, cached_most, frames_for, kept_at};
-ghost use Rattle.sst_parts.specs.ManyReads.{IsOpened, located, place_of};
+ghost use Rattle.sstable_blocks.specs.ManyReads.{place_of};
 ghost use Rattle.sstable_blocks.specs.Prelude.{CountsBetween};
 ghost use Rattle.sstable_blocks.specs.RunReading.{hashes, read_checked};
 ghost use Rattle.sstable_blocks.specs.Sound.{FindsFirst};
 ghost use Rattle.sstable_blocks.specs.Sources.{AsksExactly, ReadsAs, UsesSource};
-ghost use Rattle.sstable_blocks.specs.Tables.{LooksBy, kept_says};
+ghost use Rattle.sstable_blocks.specs.Tables.{LooksBy, kept_says, located};
 
 use crate::cache::BlockCache;
-use crate::many::locate;
 use sstable_blocks::run::laws::sound_is_read;
 use sstable_blocks::run::{FrameSource, Table};
 use sstable_blocks::{BlockHash, Error, InternalValue, Result, SeqNo, Steps};
@@ -22,8 +21,7 @@ use std::marker::Model;
 
 /// A table that is read through a cache of blocks, which gave it a number.
 ///
-/// Clauses see the table and its number. What the table keeps is always what is read of its
-/// source's bytes, if these are known.
+/// Clauses see the table and its number.
 #[derive(Drop)]
 pub struct CachedTable<H: BlockHash, S: FrameSource> {
     table: Table<H, S>,
@@ -32,14 +30,10 @@ pub struct CachedTable<H: BlockHash, S: FrameSource> {
 
 impl<H: BlockHash, S: FrameSource> Model for CachedTable<H, S> {
     ghost use Rattle.sst_parts.specs.Caches.{CachedParts};
-    ghost use Rattle.sst_parts.specs.ManyReads.{IsOpened};
-    ghost use Rattle.sstable_blocks.specs.RunReading.{hashes};
 
     ghost Value = { CachedParts S };
 
     ghost view = { λ t. record { table = t.table; number = t.number } };
-
-    ghost invariant = { λ t. IsOpened (hashes H.hash64 H.hash128) S.bytes t.table };
 }
 
 // The first match in the block at an index of a table, which is kept.
@@ -137,7 +131,6 @@ fn get_by<H: BlockHash, S: FrameSource>(
     seqno: SeqNo,
     steps: &mut Steps,
 ) -> Result<Option<InternalValue>>
-    requires opened { IsOpened (hashes H.hash64 H.hash128) S.bytes table.old }
     requires added { slice_get cache.old.tables number
         ≡ Some (S.bytes table.old.source, table.old.index) }
     ensures kept { table.new ≡ record table.old { source = table.new.source } }
@@ -159,7 +152,7 @@ fn get_by<H: BlockHash, S: FrameSource>(
         (place_of (located H.hash64 table.old.filter table.old.index needle.now seqno))
         result cache.new }
 {
-    let Some(index) = locate(table, needle, seqno, steps)? else {
+    let Some(index) = table.run().locate(needle, seqno, steps) else {
         return Ok(None);
     };
     read_at(alloc, table, cache, number, index, needle, seqno, steps)
@@ -175,7 +168,6 @@ impl<H: BlockHash, S: FrameSource> CachedTable<H, S> {
         cache: &mut BlockCache<H>,
         table: Table<H, S>,
     ) -> std::result::Result<CachedTable<H, S>, Table<H, S>>
-        requires { IsOpened (hashes H.hash64 H.hash128) S.bytes table }
         ensures table { IfOk result (λ t. (t.table ≡ table)
             × (t.number ≡ length cache.old.tables)) }
         ensures cache { IfOk result (λ _. cache.new ≡ record cache.old {
@@ -251,8 +243,7 @@ impl<H: BlockHash, S: FrameSource> CachedTable<H, S> {
 
     /// Returns the table.
     pub fn table(&self) -> &Table<H, S>
-        ensures table { result.now ≡ self.now.table }
-        ensures opened { IsOpened (hashes H.hash64 H.hash128) S.bytes self.now.table }
+        ensures { result.now ≡ self.now.table }
     {
         &self.table
     }
@@ -260,8 +251,7 @@ impl<H: BlockHash, S: FrameSource> CachedTable<H, S> {
     /// Returns the table, which the cache is not used for any more. Its blocks stay there until
     /// others take their place.
     pub fn into_table(self) -> Table<H, S>
-        ensures table { result ≡ self.table }
-        ensures opened { IsOpened (hashes H.hash64 H.hash128) S.bytes self.table }
+        ensures { result ≡ self.table }
     {
         self.table
     }

@@ -5,9 +5,9 @@ ghost use Rattle.std.specs.Prelude.{slice_get};
 ghost use Rattle.std.specs.List.{AllZip};
 ghost use Rattle.std.specs.Option.{option_map};
 ghost use Rattle.sst_parts.specs.declared.checking.PartedSummary.{PartedSummary};
-ghost use Rattle.sst_parts.specs.ManyReads.{IsRising, different, indexes, many_frames};
 ghost use Rattle.sst_parts.specs.PartChecks.{check_parted, summary_of_parts};
 ghost use Rattle.sst_parts.specs.PartFinds.{FoundPart, IsReadIndex};
+ghost use Rattle.sst_parts.specs.PartReaders.{read_open_by_top};
 ghost use Rattle.sst_parts.specs.Parts.{IsParted, read_by_top, tops_at, tops_by_footer};
 ghost use Rattle.sst_parts.specs.PartScans.{parts_read};
 ghost use Rattle.sst_parts.specs.PartWriting.{IsPartedFile, IsPartedLayout};
@@ -98,6 +98,22 @@ pub fn parted_is_accepted()
     sound_run_is_accepted();
 }
 
+/// A read of a parted table of whose parts one stays open gives the first match of the entries of
+/// all parts: the part that can hold it opens.
+pub fn open_part_is_read()
+    ensures { (c : Hashes) (parts : List (List (List Entry))) (bytes : List ℕ) (top : HandleParts)
+        (tops : List Handle) (needle : List ℕ) (seqno : ℕ)
+        → ((xs : List ℕ) → c.hash128 xs < 2 ^ 128) → IsParted c parts bytes top
+        → tops_at c bytes top ≡ Ok tops
+        → read_open_by_top c bytes (handle_for handles needle seqno tops) needle seqno
+        ≡ Ok (first_match entries needle seqno (joined (joined parts))) }
+{
+    index_check_is_by_stages();
+    index_block_is_read();
+    sound_is_read();
+    first_match_is_in_one_part::<InternalValue, KeyedBlockHandle>();
+}
+
 /// The index of the parts of a parted table lies where its handle says, and is read.
 pub fn parted_index_is_read()
     ensures { (c : Hashes) (parts : List (List (List Entry))) (bytes : List ℕ) (top : HandleParts)
@@ -145,10 +161,3 @@ pub fn parted_file_opens()
     index_check_is_by_stages();
     index_block_is_read();
 }
-
-/// Where the indexes of the blocks of needles do not fall, [`get_many`](crate::many::get_many) asks
-/// for at most as many frames as there are different blocks among them.
-pub fn rising_blocks_are_read_once()
-    ensures { (places : List (Option ℕ)) → IsRising (indexes places)
-        → many_frames None places ≡ different (indexes places) }
-{}

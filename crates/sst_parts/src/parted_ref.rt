@@ -2,7 +2,8 @@
 ghost use Rattle.std.specs.Prelude.{◌≡◌, ℕ, ◌+◌, ◌≤◌, List, IfOk, Ok, length};
 ghost use Rattle.sst_parts.specs.PartChecks.{ForParted, IsPartedSummary, IsPartedTable};
 ghost use Rattle.sst_parts.specs.PartChecks.{check_parted, summary_of_parts};
-ghost use Rattle.sst_parts.specs.Parts.{IsStoredPart, most_by_places, part_in, parted_most};
+ghost use Rattle.sst_parts.specs.Parts.{IsStoredPart, most_by_places, parted_most};
+ghost use Rattle.sstable_blocks.specs.RunPlaces.{part_in};
 ghost use Rattle.sst_parts.specs.Parts.{places_in, tops_at};
 ghost use Rattle.sstable_blocks.specs.Blocks.{joined};
 ghost use Rattle.sstable_blocks.specs.Footer.{table_handles};

@@ -1,15 +1,18 @@
 //! Parted tables in a source, of which the index of the parts is kept.
 ghost use Rattle.std.specs.Prelude.{◌≡◌, ◌+◌, ◌<◌, ◌^◌, Ok, IfOk, IfSome, MatchResult, Option};
-ghost use Rattle.std.specs.Prelude.{true};
+ghost use Rattle.std.specs.Prelude.{None, true};
 ghost use Rattle.std.specs.Prelude.{OnOk, length};
 ghost use Rattle.std.specs.Option.{option_map};
 ghost use Rattle.sst_parts.specs.PartChecks.{ForParted, IsPartedSummary, check_parted};
 ghost use Rattle.sst_parts.specs.PartChecks.{parts_frames, summary_of_parts};
+ghost use Rattle.sst_parts.specs.PartReaders.{FindsAllInParts, needles_frames};
+ghost use Rattle.sst_parts.specs.PartReaders.{read_open_by_top};
 ghost use Rattle.sst_parts.specs.Parts.{FindsInParts, error_after, parted_frames, parted_most};
 ghost use Rattle.sst_parts.specs.Parts.{read_by_top, source_after, tops_at, tops_by_footer};
 ghost use Rattle.sst_parts.specs.Parts.{tops_frames};
 ghost use Rattle.sstable_blocks.specs.Footer.{table_handles};
 ghost use Rattle.sstable_blocks.specs.Lookup.{handle_for};
+ghost use Rattle.sstable_blocks.specs.ManyReads.{read_each};
 ghost use Rattle.sstable_blocks.specs.Opened.{range_of};
 ghost use Rattle.sstable_blocks.specs.Prelude.{IsBytes, CountsBetween, handles};
 ghost use Rattle.sstable_blocks.specs.ReadCosts.{find_cost};
@@ -19,15 +22,18 @@ ghost use Rattle.sstable_blocks.specs.Sources.{AsksAs, AsksExactly, AsksIfOk, As
 ghost use Rattle.sstable_blocks.specs.Sources.{FailsAs, GivesOr, ReadsAs, UsesSource};
 
 use crate::checking::{PartedSummary, check_parts};
-use crate::laws::{accepted_parted_is_sound, parted_is_accepted, parted_is_read};
-use crate::part::{find_range, read_in_part};
+use crate::laws::{
+    accepted_parted_is_sound, open_part_is_read, parted_is_accepted, parted_is_read,
+};
+use crate::part::{find_part, read_in_part};
+use crate::parts_reader::PartsReader;
 use sstable_blocks::laws::index_check_is_by_stages;
 use sstable_blocks::run::checked::block_from;
 use sstable_blocks::run::footer::read_table_footer;
-use sstable_blocks::run::{FrameSource, OpenError, RunHandles, SizedSource};
+use sstable_blocks::run::{FrameSource, OpenError, RunHandles, SizedSource, read_many};
 use sstable_blocks::{
-    BlockHandle, BlockHash, BlockType, Error, IndexBlock, InternalValue, Result, SeqNo, Slice,
-    Steps,
+    BlockHandle, BlockHash, BlockType, Error, IndexBlock, InternalValue, Needle, Result, SeqNo,
+    Slice, Steps,
 };
 use std::alloc::Global;
 use std::marker::{Model, PhantomData};
@@ -48,24 +54,6 @@ fn tops_from<H: BlockHash, S: FrameSource>(
     index_check_is_by_stages();
     let block = block_from::<H, S>(alloc, source, top, BlockType::Meta)?;
     IndexBlock::check(alloc, block)
-}
-
-// The range of the part that can hold a key below a sequence number.
-fn find_part(
-    index: &IndexBlock,
-    needle: &[u8],
-    seqno: SeqNo,
-    steps: &mut Steps,
-) -> Option<BlockHandle>
-    ensures found { result
-        ≡ option_map range_of (handle_for handles needle.now seqno index.now.items) }
-    ensures end { IfSome result (λ p. p.offset + p.size < 2 ^ 64) }
-    ensures counts { CountsBetween steps.old steps.new (1, 0)
-        (find_cost index.now.interval (length index.now.items)) }
-{
-    // Each part ends below 2^64.
-    let _payload = index.as_slice();
-    find_range(index, needle, seqno, steps)
 }
 
 // The first match by the index of the parts.
@@ -201,6 +189,41 @@ impl<H: BlockHash, S: FrameSource> PartedTable<H, S> {
     {
         parted_is_read();
         read_by_tops::<H, S>(alloc, &mut self.source, &self.index, needle, seqno, steps)
+    }
+
+    /// Returns for each needle the first entry with its key below its bound, in the order of the
+    /// needles. The part that was read last stays open: a footer, a filter and an index are read
+    /// only where the part is not that one, and a block only where it is not the one that was read
+    /// last. Needles in the order of keys so open each part once.
+    ///
+    /// What is examined is added to `steps`.
+    ///
+    /// # Errors
+    ///
+    /// The first one met by these reads: for a part that is opened those of its footer, as
+    /// [`PartedTable::get`] has them, then those of [`OpenRun::open`](sstable_blocks::OpenRun::open),
+    /// also where the filter rules the key out; then those of the block. `Error::Memory` too if the
+    /// vector's allocation fails.
+    pub fn get_many(
+        &mut self,
+        alloc: Global,
+        needles: &[Needle<'_>],
+        steps: &mut Steps,
+    ) -> Result<Vec<Option<InternalValue>>>
+        ensures kept { self.new ≡ record self.old { source = self.new.source } }
+        ensures source { UsesSource S.bytes S.failures S.reads S.is_reliable
+            (AsksUpTo (needles_frames self.old.tops None needles.now))
+            self.old.source self.new.source result }
+        ensures exact { ReadsAs S.bytes S.failures S.is_reliable self.old.source self.new.source
+            (λ v. v.items) result (λ all. read_each (λ n. read_open_by_top
+            (hashes H.hash64 H.hash128) all
+            (handle_for handles n.key.now n.seqno self.old.tops) n.key.now n.seqno) needles.now) }
+        ensures sound { IfSome (S.bytes self.old.source) (FindsAllInParts
+            (hashes H.hash64 H.hash128) self.old.top needles.now (λ v. v.items) result) }
+    {
+        open_part_is_read();
+        let mut reader = PartsReader::<H>::new(&self.index);
+        read_many(alloc, &mut self.source, &mut reader, needles, steps)
     }
 
     /// Reads the bytes of the part of the handle at an index of the index of the parts, by one

@@ -1,8 +1,6 @@
 // Tables that are read through a cache of blocks, against reads without one.
 ghost use Rattle.std.specs.Prelude.{OnOk};
 ghost use Rattle.sst_parts.specs.Caches.{IsAdded, StillAdded};
-ghost use Rattle.sst_parts.specs.ManyReads.{IsOpened};
-ghost use Rattle.sstable_blocks.specs.RunReading.{hashes};
 
 use crate::Tested;
 use crate::runs::lists::{NO_BUCKETS, push};
@@ -95,9 +93,7 @@ fn wrong_through<H: BlockHash, S: FrameSource + Drop>(
     cache: &mut BlockCache<H>,
     table: Table<H, S>,
     plain: &mut Table<H, S>,
-) -> Result<u64>
-    requires { IsOpened (hashes H.hash64 H.hash128) S.bytes table }
-{
+) -> Result<u64> {
     match CachedTable::new(cache, table) {
         Ok(mut cached) => count_wrong(alloc, cache, &mut cached, plain),
         Err(_) => Err(Error::TooLong),

@@ -77,7 +77,12 @@ fn written_with_top(
 }
 
 // The same table alone.
-fn written(alloc: Global, len: usize, sizes: PartSizes, bits: u32) -> sst_base::Result<Vec<u8>> {
+pub(crate) fn written(
+    alloc: Global,
+    len: usize,
+    sizes: PartSizes,
+    bits: u32,
+) -> sst_base::Result<Vec<u8>> {
     let (_, bytes) = written_with_top(alloc, len, sizes, bits)?;
     Ok(bytes)
 }
@@ -94,7 +99,7 @@ fn got(
 }
 
 // The sequence number of the newest version of a key below a number, 0 where there is none.
-fn newest(key: u8, seqno: u64) -> u64 {
+pub(crate) fn newest(key: u8, seqno: u64) -> u64 {
     if key % 2 == 1 && key < 12 {
         seqno.min(10).saturating_sub(1)
     } else {

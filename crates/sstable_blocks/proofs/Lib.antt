@@ -4,3 +4,4 @@ mod Layouts
 mod Reading
 mod Checks
 mod Scans
+mod ManyReads

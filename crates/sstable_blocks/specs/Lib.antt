@@ -21,6 +21,7 @@ pub mod WalkLaws
 pub mod RunChecks
 pub mod FrameCounts
 pub mod Footer
+pub mod RunPlaces
 pub mod Tables
 pub mod Tallies
 pub mod BlockReading
@@ -42,6 +43,8 @@ pub mod FooterLaws
 pub mod MeaningLaws
 pub mod SoundReadLaws
 pub mod KeptLaws
+pub mod LocatedLaws
+pub mod ManyReads
 pub mod TableCountLaws
 pub mod FrameCountLaws
 pub mod BoundLaws

@@ -28,6 +28,11 @@ use Rattle.sstable_blocks.specs.MeaningLaws.{payload_at_takes}
 use Rattle.sstable_blocks.specs.OpeningLaws.{frame_range}
 use Rattle.sstable_blocks.specs.PointLaws.{some_range, block_heads, block_entries}
 
+-- nothing was counted
+pub nothing_counted : (o : Option (List ℕ)) (s : Counted) (most : List ℕ → ℕ × ℕ) → IfSome o (λ all. CountsBetween s s (0, 0) (most all))
+nothing_counted None s most = tt
+nothing_counted (Some all) s most = record { heads_least = omega arith; heads_most = omega arith; entries_least = omega arith; entries_most = omega arith }
+
 -- a payload that was read is in the range of its frame
 pub placed : (c : Hashes) (t : BlockType) (o : Option (List ℕ)) (k : HandleParts) (p : List ℕ) → IfSome o IsBytes → IfSome o (λ all. payload_at c t all k ≡ Ok p) → IfSome o (λ all. payload_in all k ≡ p)
 placed c t None k p cells read = tt

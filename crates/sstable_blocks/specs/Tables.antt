@@ -1,5 +1,5 @@
 -- Tables: runs in a source, whose filter and index are read once.
-use Rattle.std.specs.Prelude.{◌≡◌, ℕ, ◌<◌, if◌then◌else◌, Bool, true, false, List, Option, Some, None, Result, Ok, Err}
+use Rattle.std.specs.Prelude.{◌≡◌, ℕ, ◌<◌, nat_lt, if◌then◌else◌, Bool, true, false, List, length, Option, Some, None, IfSome, Result, Ok, Err}
 use Rattle.sst_base.specs.BlockHandle.{HandleParts}
 use Rattle.sst_base.specs.Counted.{Counted, CountsExactly, found_item}
 use Rattle.sst_base.specs.Entry.{Entry}
@@ -11,7 +11,7 @@ use Rattle.sst_block_core.specs.Handles.{Handle, handles}
 use Rattle.sst_block_core.specs.Stages.{items_in}
 use Rattle.sstable_blocks.specs.Filter.{filter_at}
 use Rattle.sstable_blocks.specs.Footer.{table_handles}
-use Rattle.sstable_blocks.specs.Lookup.{handle_for}
+use Rattle.sstable_blocks.specs.Lookup.{handle_for, place_for}
 use Rattle.sstable_blocks.specs.Opened.{index_in, payload_in}
 use Rattle.sstable_blocks.specs.ReadCosts.{interval_in}
 use Rattle.sstable_blocks.specs.RunReading.{Hashes, payload_at, handles_at, filter_answer, read_block}
@@ -36,6 +36,10 @@ pub record KeptParts : Type 0 where
 
 abbrev pub kept_parts : {S : Type 0} → TableParts S → KeptParts
 kept_parts t = record { handles = t.handles; filter = t.filter; index = t.index; interval = t.interval }
+
+-- both
+abbrev pub table_of : {S : Type 0} → S → KeptParts → TableParts S
+table_of source r = record { source = source; handles = r.handles; filter = r.filter; index = r.index; interval = r.interval }
 
 -- the payload of the filter of a run, if it has one
 abbrev pub filter_kept : Hashes → List ℕ → Option HandleParts → Result (Option (List ℕ)) Error
@@ -75,10 +79,24 @@ pub record IsKeptOf (c : Hashes) (h : RunHandles) (filter : Option (List ℕ)) (
   pub index_is : handles_at c bytes h.index ≡ Ok index
   pub place : IsIndexIn bytes h.index index interval
 
+-- a run was opened of bytes, if these are known
+abbrev pub IsOpenedOf : Hashes → Option (List ℕ) → KeptParts → Type 0
+IsOpenedOf c bytes r = IfSome bytes (IsKeptOf c r.handles r.filter r.index r.interval)
+
 -- can a run have the needle, by the filter that was kept?
 abbrev pub kept_says : (List ℕ → ℕ) → Option (List ℕ) → List ℕ → Result Bool Error
 kept_says hash64 None needle = Ok true
 kept_says hash64 (Some p) needle = filter_answer p (hash64 needle)
+
+-- the index of the block that can hold a key below a sequence number, if there is such a block
+abbrev pub block_place : List Handle → List ℕ → ℕ → Option ℕ
+block_place hs needle seqno = if nat_lt (place_for handles needle seqno hs) (length hs) then Some (place_for handles needle seqno hs) else None
+
+-- the same by what was kept: none where the filter rules the key out
+abbrev pub located : (List ℕ → ℕ) → Option (List ℕ) → List Handle → List ℕ → ℕ → Result (Option ℕ) Error
+located hash64 filter hs needle seqno = do
+  may ← kept_says hash64 filter needle
+  Ok (if may then block_place hs needle seqno else None)
 
 -- the first match by the filter and the handles that were kept
 abbrev pub read_kept : Hashes → List ℕ → Option (List ℕ) → List Handle → List ℕ → ℕ → Result (Option Entry) Error

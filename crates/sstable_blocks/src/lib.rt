@@ -11,10 +11,10 @@ pub mod table;
 pub mod xxh3_hash;
 
 pub use run::{
-    BufferedFile, FileSource, FrameSource, LockFiles, MemorySource, NewFile, NotMade, OpenError,
-    RunConfig, RunHandles, RunRef, RunScan, RunSummary, RunWriter, Scan, SharedScan, SizedSource,
-    SyncWrite, Table, TableWriter, cuts_fit, decode_footer, encode_footer, end_table, read_entry,
-    read_entry_checked, shared_entry, write_and_read, write_run,
+    BufferedFile, FileSource, FrameSource, LockFiles, MemorySource, Needle, NewFile, NotMade,
+    OpenError, OpenRun, RunConfig, RunHandles, RunRef, RunScan, RunSummary, RunWriter, Scan,
+    SharedScan, SizedSource, SyncWrite, Table, TableWriter, cuts_fit, decode_footer, encode_footer,
+    end_table, read_entry, read_entry_checked, shared_entry, write_and_read, write_run,
 };
 pub use sst_base::{
     Block, BlockHandle, BlockHash, BlockOffset, BlockType, ByteSum, Checksum, ChecksumType,

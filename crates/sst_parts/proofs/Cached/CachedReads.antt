@@ -6,9 +6,9 @@ use Rattle.std.proofs.lemmas.Bool.{cases_Bool}
 use Rattle.sstable_blocks.specs.Prelude.{Counted, CountsBetween, Entry, scan_cost, DataBlockParts, entries, Handle, handles, digits, head_count, first_match}
 use Rattle.sstable_blocks.specs.Results.{◌>>=◌, Error, Memory}
 use Rattle.sstable_blocks.specs.BlockLaws.{read_most}
-use Rattle.sst_parts.proofs.Reading.Located.{checked_is_located, items_first, some_at}
+use Rattle.sstable_blocks.specs.LocatedLaws.{checked_is_located, items_first, some_at}
 use Rattle.sst_parts.specs.Caches.{IsBlockOf, IsReadOf, Origin}
-use Rattle.sst_parts.specs.ManyReads.{block_place, located, read_at}
+use Rattle.sstable_blocks.specs.ManyReads.{read_at}
 use Rattle.sstable_blocks.specs.Lookup.{handle_for, place_for}
 use Rattle.sstable_blocks.specs.Opened.{range_of}
 use Rattle.sstable_blocks.specs.PointLaws.{block_entries, block_heads}
@@ -17,7 +17,7 @@ use Rattle.sstable_blocks.specs.RunReading.{Hashes, block_items_at, read_block, 
 use Rattle.sstable_blocks.specs.Scans.{AtHandle, index_cost}
 use Rattle.sstable_blocks.specs.SourceLaws.{source_fails}
 use Rattle.sstable_blocks.specs.Sources.{FailsAs, GivesOr}
-use Rattle.sstable_blocks.specs.Tables.{IsBlockIn, kept_of, kept_says}
+use Rattle.sstable_blocks.specs.Tables.{IsBlockIn, block_place, kept_of, kept_says, located}
 use Rattle.sstable_blocks.specs.declared.run.RunHandles.{RunHandles}
 
 module _ (c : Hashes) (needle : List ℕ) (seqno : ℕ) where

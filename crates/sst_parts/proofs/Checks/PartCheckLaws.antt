@@ -8,7 +8,8 @@ use Rattle.sstable_blocks.specs.BlockLaws.{IsBytes-take, IsBytes-drop, bind_ok, 
 use Rattle.sstable_blocks.specs.Results.{Error, BadHandle, OutOfOrder, Truncated}
 use Rattle.sstable_blocks.specs.BlockTypes as types
 use Rattle.sst_parts.specs.PartChecks.{begins_after, check_bytes, check_ends, check_file, check_part, check_parted, check_parts, is_end_at, no_parts, passed_on, summary_of_parts}
-use Rattle.sst_parts.specs.Parts.{IsParted, IsStoredPart, part_in, tops_at}
+use Rattle.sst_parts.specs.Parts.{IsParted, IsStoredPart, tops_at}
+use Rattle.sstable_blocks.specs.RunPlaces.{part_in}
 use Rattle.sst_parts.specs.declared.checking.PartedSummary.{PartedSummary}
 use Rattle.sst_parts.specs.declared.checking.Passed.{Passed}
 use Rattle.sst_parts.proofs.Writing.Joins.{joined-map}

@@ -5,7 +5,8 @@ use Rattle.std.specs.Option.{option_map}
 use Rattle.sstable_blocks.specs.Prelude.{HandleParts, Counted, CountsBetween, Entry, index_check, IndexVerdict, entries, Handle, handles, IsIndexBlock, IndexPasses, IsOrdered, items_in, trailer_in, first_match, DataBlockParsedItem}
 use Rattle.sstable_blocks.specs.BlockTypes as types
 use Rattle.sst_parts.specs.PartFinds.{FoundPart, IsReadIndex}
-use Rattle.sst_parts.specs.Parts.{IsParted, IsStoredPart, most_by_places, part_in, places_in, tops_at}
+use Rattle.sst_parts.specs.Parts.{IsParted, IsStoredPart, most_by_places, places_in, tops_at}
+use Rattle.sstable_blocks.specs.RunPlaces.{part_in}
 use Rattle.sst_parts.proofs.Reading.Openings.{part_ends}
 use Rattle.sst_parts.proofs.Reading.PartReads.{places_of_table, same_ok, tops_read}
 use Rattle.sstable_blocks.specs.Blocks.{joined}

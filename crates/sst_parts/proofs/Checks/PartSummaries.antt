@@ -3,7 +3,8 @@ use Rattle.std.proofs.Common.{◌≡◌, ℕ, suc, ◌+◌, ◌-◌, ◌≤◌, 
 use Rattle.std.specs.List.{AllZip}
 use Rattle.sstable_blocks.specs.Prelude.{Entry, Handle}
 use Rattle.sst_parts.specs.PartChecks.{no_parts, passed_on, whole_of, whole_with}
-use Rattle.sst_parts.specs.Parts.{IsStoredPart, part_in}
+use Rattle.sst_parts.specs.Parts.{IsStoredPart}
+use Rattle.sstable_blocks.specs.RunPlaces.{part_in}
 use Rattle.sst_parts.specs.declared.checking.Passed.{Passed}
 use Rattle.sst_parts.proofs.Writing.Joins.{joined-append}
 use Rattle.sstable_blocks.specs.Blocks.{joined}

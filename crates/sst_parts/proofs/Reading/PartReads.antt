@@ -7,7 +7,8 @@ use Rattle.std.specs.Option.{option_map}
 use Rattle.sstable_blocks.specs.Prelude.{HandleParts, Entry, entries, IsOrdered, items_in, trailer_in, first_match, index_check, IndexVerdict, Handle, handles, IsIndexBlock, IndexPasses, IndexPassesBy}
 use Rattle.sstable_blocks.specs.Results.{◌>>=◌, Error, BadHandle}
 use Rattle.sstable_blocks.specs.BlockTypes as types
-use Rattle.sst_parts.specs.Parts.{IsParted, IsStoredPart, IsStoredTop, part_in, places_in, read_by_top, read_part, tops_at, tops_by_footer}
+use Rattle.sst_parts.specs.Parts.{IsParted, IsStoredPart, IsStoredTop, places_in, read_by_top, read_part, tops_at, tops_by_footer}
+use Rattle.sstable_blocks.specs.RunPlaces.{part_in}
 use Rattle.sst_parts.specs.PartWriting.{IsPartedFile, top_handles}
 use Rattle.sst_parts.proofs.Reading.FileOpenings.{by_handles}
 use Rattle.sst_parts.proofs.Writing.Footers.{footer_some}

@@ -3,7 +3,8 @@ use Rattle.std.proofs.Common.{◌≡◌, ℕ, ◌<◌, ◌≤◌, List, length, 
 use Rattle.std.specs.Option.{option_map}
 use Rattle.sstable_blocks.specs.Prelude.{HandleParts, Counted, CountsBetween, Entry, Handle, handles}
 use Rattle.sstable_blocks.specs.Results.{◌>>=◌, Error}
-use Rattle.sst_parts.specs.Parts.{most_by_places, part_in, part_most, parted_most, places_in, read_by_top, read_part}
+use Rattle.sst_parts.specs.Parts.{most_by_places, part_most, parted_most, places_in, read_by_top, read_part}
+use Rattle.sstable_blocks.specs.RunPlaces.{part_in}
 use Rattle.sstable_blocks.specs.Lookup.{handle_for}
 use Rattle.sstable_blocks.specs.Opened.{range_of}
 use Rattle.sstable_blocks.specs.ReadCosts.{CountsRead, find_cost}

@@ -5,7 +5,8 @@ use Rattle.std.specs.List.{AllZip}
 use Rattle.sstable_blocks.specs.Prelude.{HandleParts, Entry, plain, index_check, IndexVerdict, entries, Handle, handles, IsIndexBlock, IndexPasses, IsOrdered, items_in, trailer_in}
 use Rattle.sstable_blocks.specs.Results.{Error, BadHandle}
 use Rattle.sstable_blocks.specs.BlockTypes as types
-use Rattle.sst_parts.specs.Parts.{IsParted, IsStoredPart, part_in, tops_at}
+use Rattle.sst_parts.specs.Parts.{IsParted, IsStoredPart, tops_at}
+use Rattle.sstable_blocks.specs.RunPlaces.{part_in}
 use Rattle.sst_parts.specs.PartScans.{bytes_reads, kept_reads, part_reads, parts_read}
 use Rattle.sst_parts.proofs.Writing.Joins.{joined-map, zip-map}
 use Rattle.sst_parts.proofs.Reading.PartReads.{tops_read}

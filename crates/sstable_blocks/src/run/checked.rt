@@ -7,8 +7,10 @@ ghost use Rattle.sst_base.specs.Counted.{CountsBetween};
 ghost use Rattle.sst_base.specs.declared.error.Error.TheVariants.{Io};
 ghost use Rattle.sst_block_core.specs.Intervals.{digits};
 ghost use Rattle.sst_block_core.specs.Handles.{Handle};
-ghost use Rattle.sstable_blocks.specs.Opened.{range_of};
-ghost use Rattle.sstable_blocks.specs.ReadCosts.{CountsGrow, heads_at, entries_at};
+ghost use Rattle.sstable_blocks.specs.Opened.{index_in, range_of};
+ghost use Rattle.sstable_blocks.specs.ReadCosts.{CountsGrow, CountsRead, heads_at, entries_at};
+ghost use Rattle.sstable_blocks.specs.ReadCosts.{interval_in, most_by};
+ghost use Rattle.sstable_blocks.specs.RunPlaces.{AsksAll, IsPlaced, IsWhole, placed};
 ghost use Rattle.sstable_blocks.specs.RunReading.{hashes, payload_at, filter_says, filter_answer};
 ghost use Rattle.sstable_blocks.specs.RunReading.{read_block, block_items_at, handles_at};
 ghost use Rattle.sstable_blocks.specs.RunReading.{read_blocks};
@@ -22,6 +24,7 @@ ghost use Rattle.sstable_blocks.specs.Tables.{IsBlockIn};
 
 use super::RunHandles;
 use super::laws::{checked_answer_means, sound_is_read};
+use super::place::RunPlace;
 use super::search::{DataSearch, IndexSearch};
 use super::source::FrameSource;
 use crate::table::filter::FilterBlock;
@@ -78,8 +81,7 @@ pub fn data_block_from<H: BlockHash, S: FrameSource>(
     ensures place { IfOk result (λ b. IfSome (S.bytes source.old)
         (λ all. IsBlockIn all handle.now b.items b.interval)) }
 {
-    let block = block_from::<H, S>(alloc, source, handle, BlockType::Data)?;
-    DataBlock::<H>::check_once(alloc, block)
+    RunPlace::Whole.data_block_from::<H, S>(alloc, source, handle)
 }
 
 /// Reads the index block that a handle names, and checks it.
@@ -99,8 +101,7 @@ pub fn index_block_from<H: BlockHash, S: FrameSource>(
     ensures exact { ReadsAs S.bytes S.failures S.is_reliable source.old source.new
         (λ b. b.items) result (λ all. handles_at (hashes H.hash64 H.hash128) all handle.now) }
 {
-    let block = block_from::<H, S>(alloc, source, handle, BlockType::Index)?;
-    IndexBlock::check_once(block)
+    RunPlace::Whole.index_block_from::<H, S>(alloc, source, handle)
 }
 
 // What the filter in a block says of a hash.
@@ -116,19 +117,25 @@ fn query_filter(block: Block, hash: u64) -> Result<bool>
 fn filter_allows<H: BlockHash, S: FrameSource>(
     alloc: Global,
     source: &mut S,
+    place: &RunPlace,
     filter: &Option<BlockHandle>,
     needle: &[u8],
 ) -> Result<bool>
+    requires { IsPlaced place.now (S.bytes source.old) }
     ensures source { UsesSource S.bytes S.failures S.reads S.is_reliable
-        (AsksExactly (filter_frames filter.now)) source.old source.new result }
-    ensures cells { OnOk result ((filter.now ≡ None) ⊎ IfSome (S.bytes source.old) IsBytes) }
-    ensures exact { ReadsAs S.bytes S.failures S.is_reliable source.old source.new (λ b. b) result
+        (AsksUpTo (filter_frames filter.now)) source.old source.new result }
+    ensures asked { AsksAll place.now (filter_frames filter.now) result (S.reads source.old)
+        (S.reads source.new) }
+    ensures cells { OnOk result ((filter.now ≡ None)
+        ⊎ IfSome (placed S.bytes place.now source.old) IsBytes) }
+    ensures exact { ReadsAs (placed S.bytes place.now) S.failures S.is_reliable source.old
+        source.new (λ b. b) result
         (λ all. filter_says (hashes H.hash64 H.hash128) all filter.now needle.now) }
 {
     match filter {
         None => Ok(true),
         Some(handle) => {
-            let block = block_from::<H, S>(alloc, source, handle, BlockType::Filter)?;
+            let block = place.block_from::<H, S>(alloc, source, handle, BlockType::Filter)?;
             query_filter(block, H::hash64(needle))
         }
     }
@@ -138,18 +145,22 @@ fn filter_allows<H: BlockHash, S: FrameSource>(
 pub(crate) fn read_in_block<H: BlockHash, S: FrameSource>(
     alloc: Global,
     source: &mut S,
+    place: &RunPlace,
     handle: &Option<BlockHandle>,
     needle: &[u8],
     seqno: SeqNo,
     steps: &mut Steps,
 ) -> Result<Option<InternalValue>>
+    requires { IsPlaced place.now (S.bytes source.old) }
     ensures source { UsesSource S.bytes S.failures S.reads S.is_reliable
-        (AsksExactly (found_item handle.now)) source.old source.new result }
-    ensures exact { IfSome (S.bytes source.old)
+        (AsksUpTo (found_item handle.now)) source.old source.new result }
+    ensures asked { AsksAll place.now (found_item handle.now) result (S.reads source.old)
+        (S.reads source.new) }
+    ensures exact { IfSome (placed S.bytes place.now source.old)
         (λ all. (h : Option Handle) → handle.now ≡ option_map range_of h
         → GivesOr (S.failures source.old < S.failures source.new) (S.is_reliable source.old)
         (λ x. x) result (read_block (hashes H.hash64 H.hash128) all h needle.now seqno)) }
-    ensures counts { IfSome (S.bytes source.old)
+    ensures counts { IfSome (placed S.bytes place.now source.old)
         (λ all. (h : Option Handle) → handle.now ≡ option_map range_of h
         → CountsBetween steps.old steps.new (0, 0) (digits (heads_at all h), entries_at all h)) }
     ensures counts_grow { CountsGrow steps.old steps.new }
@@ -157,7 +168,7 @@ pub(crate) fn read_in_block<H: BlockHash, S: FrameSource>(
     match handle {
         None => Ok(None),
         Some(handle) => {
-            let block = block_from::<H, S>(alloc, source, handle, BlockType::Data)?;
+            let block = place.block_from::<H, S>(alloc, source, handle, BlockType::Data)?;
             let block = DataSearch::<H>::check(alloc, block)?;
             block.point_read(alloc, needle, seqno, steps)
         }
@@ -168,47 +179,71 @@ pub(crate) fn read_in_block<H: BlockHash, S: FrameSource>(
 fn read_by_index<H: BlockHash, S: FrameSource>(
     alloc: Global,
     source: &mut S,
+    place: &RunPlace,
     index: &BlockHandle,
     needle: &[u8],
     seqno: SeqNo,
+    steps: &mut Steps,
 ) -> Result<Option<InternalValue>>
+    requires { IsPlaced place.now (S.bytes source.old) }
     ensures source { UsesSource S.bytes S.failures S.reads S.is_reliable
         (AsksUpTo 2) source.old source.new result }
-    ensures asked { AsksAs S.bytes S.failures S.reads source.old source.new result
+    ensures asked { IsWhole place.now → AsksAs (placed S.bytes place.now) S.failures S.reads
+        source.old source.new result
         (λ all. frames_to (hashes H.hash64 H.hash128) all index.now needle.now seqno) }
-    ensures cells { OnOk result (IfSome (S.bytes source.old) IsBytes) }
-    ensures exact { ReadsAs S.bytes S.failures S.is_reliable source.old source.new (λ x. x) result
+    ensures cells { OnOk result (IfSome (placed S.bytes place.now source.old) IsBytes) }
+    ensures exact { ReadsAs (placed S.bytes place.now) S.failures S.is_reliable source.old
+        source.new (λ x. x) result
         (λ all. read_blocks (hashes H.hash64 H.hash128) all index.now needle.now seqno) }
+    ensures counts { IfSome (placed S.bytes place.now source.old) (λ all.
+        CountsBetween steps.old steps.new (0, 0)
+        (most_by all (index_in all index.now) (interval_in all index.now) needle.now seqno)) }
+    ensures looked { steps.old.heads ≤ steps.new.heads }
 {
-    let block = block_from::<H, S>(alloc, source, index, BlockType::Index)?;
-    let index = IndexBlock::check_once(block)?;
-    let mut steps = Steps::new();
-    let handle = IndexSearch::new(index.by_ref()).find(needle, seqno, &mut steps);
-    read_in_block::<H, S>(alloc, source, &handle, needle, seqno, &mut steps)
+    let index = place.index_block_from::<H, S>(alloc, source, index)?;
+    let handle = IndexSearch::new(index.by_ref()).find(needle, seqno, steps);
+    read_in_block::<H, S>(alloc, source, place, &handle, needle, seqno, steps)
 }
 
-// The first match of a run on any bytes, in stages.
+/// Returns the first entry of a run with this key whose sequence number is strictly below `seqno`,
+/// as [`read_entry_checked`] does, of a run that may be a part of its source.
+///
+/// What is examined is added to `steps`: at most as many heads and entries as
+/// [`read_entry`](super::read_entry) examines.
+///
+/// # Errors
+///
+/// Those of [`read_entry_checked`], where a frame that is not inside the part is
+/// `Error::BadHandle`.
 #[tactic(auto, unfolding(crate::specs::RunReading::read_checked, crate::specs::FrameCounts::read_frames))]
-fn read_in_stages<H: BlockHash, S: FrameSource>(
+pub fn read_entry_at<H: BlockHash, S: FrameSource>(
     alloc: Global,
     source: &mut S,
+    place: &RunPlace,
     handles: &RunHandles,
     needle: &[u8],
     seqno: SeqNo,
+    steps: &mut Steps,
 ) -> Result<Option<InternalValue>>
+    requires { IsPlaced place.now (S.bytes source.old) }
     ensures source { UsesSource S.bytes S.failures S.reads S.is_reliable
         (AsksUpTo (2 + filter_frames handles.now.filter)) source.old source.new result }
-    ensures asked { AsksAs S.bytes S.failures S.reads source.old source.new result
+    ensures asked { IsWhole place.now → AsksAs (placed S.bytes place.now) S.failures S.reads
+        source.old source.new result
         (λ all. read_frames (hashes H.hash64 H.hash128) all handles.now needle.now seqno) }
-    ensures denied { IfSome (S.bytes source.old)
+    ensures denied { IfSome (placed S.bytes place.now source.old)
         (λ all. filter_says (hashes H.hash64 H.hash128) all handles.now.filter needle.now ≡ Ok false
         → S.reads source.new ≤ S.reads source.old + 1) }
-    ensures cells { OnOk result (IfSome (S.bytes source.old) IsBytes) }
-    ensures exact { ReadsAs S.bytes S.failures S.is_reliable source.old source.new (λ x. x) result
+    ensures cells { OnOk result (IfSome (placed S.bytes place.now source.old) IsBytes) }
+    ensures exact { ReadsAs (placed S.bytes place.now) S.failures S.is_reliable source.old
+        source.new (λ x. x) result
         (λ all. read_checked (hashes H.hash64 H.hash128) all handles.now needle.now seqno) }
+    ensures counts { IfSome (placed S.bytes place.now source.old)
+        (λ all. CountsRead all handles.now needle.now seqno steps.old steps.new) }
+    ensures looked { steps.old.heads ≤ steps.new.heads }
 {
-    if filter_allows::<H, S>(alloc, source, &handles.filter, needle)? {
-        read_by_index::<H, S>(alloc, source, &handles.index, needle, seqno)
+    if filter_allows::<H, S>(alloc, source, place, &handles.filter, needle)? {
+        read_by_index::<H, S>(alloc, source, place, &handles.index, needle, seqno, steps)
     } else {
         Ok(None)
     }
@@ -251,5 +286,13 @@ pub fn read_entry_checked<H: BlockHash, S: FrameSource>(
 {
     checked_answer_means();
     sound_is_read();
-    read_in_stages::<H, S>(alloc, source, handles, needle, seqno)
+    read_entry_at::<H, S>(
+        alloc,
+        source,
+        &RunPlace::Whole,
+        handles,
+        needle,
+        seqno,
+        &mut Steps::new(),
+    )
 }

@@ -5,13 +5,14 @@ ghost use Rattle.sst_block_core.specs.Entries.{entries};
 ghost use Rattle.sstable_blocks.specs.RunReading.{Hashes, hashes, handles_at, read_checked};
 ghost use Rattle.sstable_blocks.specs.RunReading.{AnswerMeans};
 ghost use Rattle.sst_base.specs.Bytes.{IsBytes};
-ghost use Rattle.std.specs.Prelude.{Option, IfSome};
+ghost use Rattle.std.specs.Prelude.{None, Option, IfSome};
 ghost use Rattle.std.specs.List.{AllByRecursion, AllZip};
 ghost use Rattle.sst_base.specs.Entry.{Entry, plain};
 ghost use Rattle.sst_block_core.specs.Handles.{Handle, handles, IsHandle, EndFits};
 ghost use Rattle.sst_block_core.specs.Kind.{IsOrdered};
 ghost use Rattle.sst_block_core.specs.Window.{first_match};
 ghost use Rattle.sstable_blocks.specs.Blocks.{joined, blocks_of, CutsFit, IsNotEmpty};
+ghost use Rattle.sstable_blocks.specs.ManyReads.{IsRising, different, indexes, many_frames};
 ghost use Rattle.sstable_blocks.specs.Lookup.{IsEnd, first_in, place_for};
 ghost use Rattle.sstable_blocks.specs.Opened.{Opened};
 ghost use Rattle.sstable_blocks.specs.ReadCosts.{heads_most, entries_most};
@@ -185,3 +186,10 @@ pub fn sound_is_scanned()
     index_block_is_read();
     first_match_of_plain();
 }
+
+/// Where the indexes of the blocks of needles do not fall, [`Table::get_many`](super::Table::get_many)
+/// asks for at most as many frames as there are different blocks among them.
+pub fn rising_blocks_are_read_once()
+    ensures { (places : List (Option ℕ)) → IsRising (indexes places)
+        → many_frames None places ≡ different (indexes places) }
+{}

@@ -1,6 +1,6 @@
 //! Tables: runs in a source, whose filter and index are read once.
-ghost use Rattle.std.specs.Prelude.{◌≡◌, ◌+◌, ◌<◌, Ok, IfOk, IfSome, MatchResult};
-ghost use Rattle.std.specs.Prelude.{Some, length, true};
+ghost use Rattle.std.specs.Prelude.{◌≡◌, ◌+◌, ◌<◌, None, Ok, IfOk, IfSome, MatchResult};
+ghost use Rattle.std.specs.Prelude.{Some, length, map, true};
 ghost use Rattle.std.specs.Option.{option_map};
 ghost use Rattle.sst_base.specs.Counted.{CountsBetween};
 ghost use Rattle.sst_base.specs.declared.error.Error.TheVariants.{Io};
@@ -12,30 +12,30 @@ ghost use Rattle.sstable_blocks.specs.Opened.{range_of};
 ghost use Rattle.sstable_blocks.specs.RunChecks.{check_run as run_checked, summary_of};
 ghost use Rattle.sstable_blocks.specs.RunReading.{hashes, block_items_at, handles_at, read_checked};
 ghost use Rattle.sstable_blocks.specs.Sound.{FindsFirst, ForSound, IsSoundRun, IsSummary};
-ghost use Rattle.sstable_blocks.specs.Sources.{AsksAs, AsksExactly, AsksIfOk, FailsAs, GivesOr};
+ghost use Rattle.sstable_blocks.specs.Sources.{AsksAs, AsksExactly, AsksIfOk, AsksUpTo, FailsAs, GivesOr};
 ghost use Rattle.sstable_blocks.specs.Sources.{ReadsAs, UsesSource, filter_frames};
 ghost use Rattle.sstable_blocks.specs.FrameCounts.{check_frames, file_frames, open_frames};
-ghost use Rattle.sstable_blocks.specs.Tables.{filter_kept, kept_of, kept_by_footer, IsKeptOf};
-ghost use Rattle.sstable_blocks.specs.Tables.{IsBlockIn, IsIndexIn, kept_says, read_kept};
+ghost use Rattle.sstable_blocks.specs.Tables.{kept_of, kept_by_footer, kept_parts, table_of};
+ghost use Rattle.sstable_blocks.specs.Tables.{IsBlockIn, IsOpenedOf, kept_says};
 ghost use Rattle.sstable_blocks.specs.Tables.{LooksBy, error_after, frames_by, source_after};
 ghost use Rattle.sstable_blocks.specs.Lookup.{handle_for};
+ghost use Rattle.sstable_blocks.specs.ManyReads.{many_frames, needle_place, read_each};
 ghost use Rattle.sstable_blocks.specs.Scans.{AtHandle};
 
 use super::RunHandles;
-use super::checked::{block_from, data_block_from, read_in_block};
 use super::checking::{RunSummary, check};
 use super::footer::read_table_footer;
-use super::kept_filter::KeptFilter;
-use super::laws::sound_is_read;
+use super::many::{Needle, RunReader, read_many};
+use super::open_run::OpenRun;
+use super::place::RunPlace;
 use super::run_ref::RunRef;
 use super::search::IndexSearch;
 use super::source::{FrameSource, MemorySource, SizedSource};
 use crate::table::filter::FilterBlock;
-use sst_base::{BlockHandle, BlockHash, BlockType, Error, InternalValue, Result, SeqNo, Steps};
-use sst_block_core::laws::index_check_is_by_stages;
+use sst_base::{BlockHash, Error, InternalValue, Result, SeqNo, Steps};
 use sst_block_core::{DataBlock, IndexBlock};
 use std::alloc::Global;
-use std::marker::{Model, PhantomData};
+use std::marker::Model;
 
 /// A run in a source, whose filter and index were verified and checked when it was opened, and are
 /// kept.
@@ -46,31 +46,18 @@ use std::marker::{Model, PhantomData};
 #[derive(Drop)]
 pub struct Table<H: BlockHash, S: FrameSource> {
     source: S,
-    handles: RunHandles,
-    filter: Option<KeptFilter>,
-    index: IndexBlock,
-    hash: PhantomData<H>,
+    run: OpenRun<H>,
 }
 
 impl<H: BlockHash, S: FrameSource> Model for Table<H, S> {
-    ghost use Rattle.std.specs.Prelude.{◌≡◌, IfSome, true};
-    ghost use Rattle.std.specs.Option.{option_map};
     ghost use Rattle.sstable_blocks.specs.RunReading.{hashes};
-    ghost use Rattle.sstable_blocks.specs.Tables.{TableParts, IsKeptOf};
+    ghost use Rattle.sstable_blocks.specs.Tables.{IsOpenedOf, TableParts, table_of};
 
     ghost Value = { TableParts S };
 
-    ghost view = { λ t. record {
-      source = t.source;
-      handles = t.handles;
-      filter = t.filter;
-      index = t.index.items;
-      interval = t.index.interval;
-    } };
+    ghost view = { λ t. table_of t.source t.run };
 
-    ghost invariant = { λ t. IfSome (S.bytes t.source)
-        (IsKeptOf (hashes H.hash64 H.hash128) t.handles t.filter t.index.items t.index.interval)
-        × (t.index.heads ≡ true) };
+    ghost invariant = { λ t. IsOpenedOf (hashes H.hash64 H.hash128) (S.bytes t.source) t.run };
 }
 
 /// Why a table was not opened, with its source.
@@ -88,107 +75,6 @@ impl<S: Drop> From<OpenError<S>> for Error {
     fn from(failed: OpenError<S>) -> Error {
         failed.error
     }
-}
-
-// The filter of a run, if it has one.
-fn filter_block_from<H: BlockHash, S: FrameSource>(
-    alloc: Global,
-    source: &mut S,
-    filter: &Option<BlockHandle>,
-) -> Result<Option<KeptFilter>>
-    ensures source { UsesSource S.bytes S.failures S.reads S.is_reliable
-        (AsksExactly (filter_frames filter.now)) source.old source.new result }
-    ensures exact { ReadsAs S.bytes S.failures S.is_reliable source.old source.new (λ f. f) result
-        (λ all. filter_kept (hashes H.hash64 H.hash128) all filter.now) }
-{
-    match filter {
-        None => Ok(None),
-        Some(handle) => {
-            let block = block_from::<H, S>(alloc, source, handle, BlockType::Filter)?;
-            Ok(Some(KeptFilter::read(block)?))
-        }
-    }
-}
-
-// Whether a run can have a key, by the filter that was kept, if there is one.
-#[inline(always)]
-fn kept_allows<H: BlockHash>(filter: &Option<KeptFilter>, needle: &[u8]) -> bool
-    ensures { Ok result ≡ kept_says H.hash64 filter.now needle.now }
-{
-    match filter {
-        None => true,
-        Some(filter) => filter.allows(H::hash64(needle)),
-    }
-}
-
-// The index of a run, with the table of its heads.
-fn kept_index_from<H: BlockHash, S: FrameSource>(
-    alloc: Global,
-    source: &mut S,
-    handle: &BlockHandle,
-) -> Result<IndexBlock>
-    ensures source { UsesSource S.bytes S.failures S.reads S.is_reliable
-        (AsksExactly 1) source.old source.new result }
-    ensures exact { ReadsAs S.bytes S.failures S.is_reliable source.old source.new
-        (λ b. b.items) result (λ all. handles_at (hashes H.hash64 H.hash128) all handle.now) }
-    ensures place { IfOk result (λ b. IfSome (S.bytes source.old)
-        (λ all. IsIndexIn all handle.now b.items b.interval)) }
-    ensures heads { IfOk result (λ b. b.heads ≡ true) }
-{
-    index_check_is_by_stages();
-    let block = block_from::<H, S>(alloc, source, handle, BlockType::Index)?;
-    IndexBlock::check(alloc, block)
-}
-
-// The filter of a run, if it has one, and its index.
-fn kept_from<H: BlockHash, S: FrameSource>(
-    alloc: Global,
-    source: &mut S,
-    handles: &RunHandles,
-) -> Result<(Option<KeptFilter>, IndexBlock)>
-    ensures source { UsesSource S.bytes S.failures S.reads S.is_reliable
-        (AsksIfOk (λ _. filter_frames handles.now.filter + 1)) source.old source.new result }
-    ensures asked { AsksAs S.bytes S.failures S.reads source.old source.new result
-        (λ all. open_frames (hashes H.hash64 H.hash128) all handles.now) }
-    ensures kept { IfSome (S.bytes source.old) (λ all. IfOk result
-        (λ k. IsKeptOf (hashes H.hash64 H.hash128) handles.now k.0 k.1.items k.1.interval all)) }
-    ensures exact { ReadsAs S.bytes S.failures S.is_reliable source.old source.new
-        (λ k. (k.0, k.1.items)) result
-        (λ all. kept_of (hashes H.hash64 H.hash128) all handles.now) }
-    ensures heads { IfOk result (λ k. k.1.heads ≡ true) }
-{
-    let filter = filter_block_from::<H, S>(alloc, source, &handles.filter)?;
-    let index = kept_index_from::<H, S>(alloc, source, &handles.index)?;
-    Ok((filter, index))
-}
-
-// The first match by a filter and an index that were kept.
-fn read_by_kept<H: BlockHash, S: FrameSource>(
-    alloc: Global,
-    source: &mut S,
-    filter: &Option<KeptFilter>,
-    index: &IndexSearch<'_>,
-    needle: &[u8],
-    seqno: SeqNo,
-    steps: &mut Steps,
-) -> Result<Option<InternalValue>>
-    ensures source { UsesSource S.bytes S.failures S.reads S.is_reliable
-        (AsksExactly (frames_by (kept_says H.hash64 filter.now needle.now)
-        (handle_for handles needle.now seqno index.now.items)))
-        source.old source.new result }
-    ensures exact { ReadsAs S.bytes S.failures S.is_reliable source.old source.new (λ x. x) result
-        (λ all. read_kept (hashes H.hash64 H.hash128) all filter.now index.now.items needle.now
-        seqno) }
-    ensures counts { IfSome (S.bytes source.old)
-        (λ all. CountsBetween steps.old steps.new (0, 0)
-        (most_by all index.now.items index.now.interval needle.now seqno)) }
-    ensures looked { LooksBy (kept_says H.hash64 filter.now needle.now) steps.old steps.new }
-{
-    if !kept_allows::<H>(filter, needle) {
-        return Ok(None);
-    }
-    let handle = index.find(needle, seqno, steps);
-    read_in_block::<H, S>(alloc, source, &handle, needle, seqno, steps)
 }
 
 impl<H: BlockHash, S: FrameSource> Table<H, S> {
@@ -228,33 +114,62 @@ impl<H: BlockHash, S: FrameSource> Table<H, S> {
         ensures looked { LooksBy (kept_says H.hash64 self.old.filter needle.now)
             steps.old steps.new }
     {
-        sound_is_read();
-        read_by_kept::<H, S>(
-            alloc,
-            &mut self.source,
-            &self.filter,
-            &IndexSearch::new(self.index.by_ref()),
-            needle,
-            seqno,
-            steps,
-        )
+        let place = RunPlace::Whole;
+        self.run
+            .get(alloc, &mut self.source, &place, needle, seqno, steps)
+    }
+
+    /// Returns for each needle what [`Table::get`] returns for it, in the order of the needles. A
+    /// block is read only where it is not the one that was read last: where the indexes of the
+    /// needles' blocks do not fall, each block is read once
+    /// ([`rising_blocks_are_read_once`](super::laws::rising_blocks_are_read_once)).
+    ///
+    /// What is examined is added to `steps`.
+    ///
+    /// # Errors
+    ///
+    /// The first one met by these reads: those of [`Table::get`]. `Error::Memory` too if the
+    /// vector's allocation fails.
+    pub fn get_many(
+        &mut self,
+        alloc: Global,
+        needles: &[Needle<'_>],
+        steps: &mut Steps,
+    ) -> Result<Vec<Option<InternalValue>>>
+        ensures kept { self.new ≡ record self.old { source = self.new.source } }
+        ensures source { UsesSource S.bytes S.failures S.reads S.is_reliable
+            (AsksUpTo (many_frames None
+            (map (needle_place H.hash64 (kept_parts self.old)) needles.now)))
+            self.old.source self.new.source result }
+        ensures exact { ReadsAs S.bytes S.failures S.is_reliable self.old.source self.new.source
+            (λ v. v.items) result (λ all. read_each (λ n. read_checked
+            (hashes H.hash64 H.hash128) all self.old.handles n.key.now n.seqno) needles.now) }
+    {
+        let mut reader = RunReader::new(&self.run, RunPlace::Whole);
+        read_many(alloc, &mut self.source, &mut reader, needles, steps)
+    }
+
+    /// Returns what is kept of the table.
+    pub fn run(&self) -> &OpenRun<H>
+        ensures run { result.now ≡ kept_parts self.now }
+        ensures opened { IsOpenedOf (hashes H.hash64 H.hash128) (S.bytes self.now.source)
+            (kept_parts self.now) }
+    {
+        &self.run
     }
 
     /// Returns where the index and the filter are.
     pub fn handles(&self) -> &RunHandles
         ensures { result.now ≡ self.now.handles }
     {
-        &self.handles
+        self.run.handles()
     }
 
     /// Returns the filter, if there is one.
     pub fn filter(&self) -> Option<&FilterBlock>
         ensures { option_map (λ f. f.now.payload) result ≡ self.now.filter }
     {
-        match &self.filter {
-            None => None,
-            Some(filter) => Some(filter.block()),
-        }
+        self.run.filter()
     }
 
     /// Returns the index, with the table of its heads.
@@ -266,7 +181,7 @@ impl<H: BlockHash, S: FrameSource> Table<H, S> {
             (λ all. handles_at (hashes H.hash64 H.hash128) all self.now.handles.index
             ≡ Ok self.now.index) }
     {
-        &self.index
+        self.run.index()
     }
 
     /// Reads the data block of the handle at an index of the index. Its frame is verified and
@@ -297,8 +212,9 @@ impl<H: BlockHash, S: FrameSource> Table<H, S> {
             (λ all h. IsBlockIn all (range_of h) b.items b.interval)) }
         ensures counts { CountsHandle steps.old steps.new self.old.interval index }
     {
-        let handle = IndexSearch::new(self.index.by_ref()).handle_at(index, steps);
-        data_block_from::<H, S>(alloc, &mut self.source, &handle)
+        let place = RunPlace::Whole;
+        self.run
+            .block_at(alloc, &mut self.source, &place, index, steps)
     }
 
     /// Checks the whole run, as [`check`] does, and returns its summary.
@@ -322,21 +238,33 @@ impl<H: BlockHash, S: FrameSource> Table<H, S> {
             (λ blocks. GivesOr (S.failures self.old.source < S.failures self.new.source)
             (S.is_reliable self.old.source) (λ s. s) result (Ok (summary_of blocks)))) }
     {
-        check::<H, S>(alloc, &mut self.source, &self.handles)
+        check::<H, S>(alloc, &mut self.source, self.run.handles())
+    }
+
+    /// Returns what is kept of the table, and its source.
+    pub fn into_parts(self) -> (OpenRun<H>, S)
+        ensures source { result.1 ≡ self.source }
+        ensures run { result.0 ≡ kept_parts self }
+        ensures opened { IsOpenedOf (hashes H.hash64 H.hash128) (S.bytes result.1) result.0 }
+    {
+        (self.run, self.source)
+    }
+
+    /// Makes a table of a run that was opened in a source, and that source.
+    pub fn from_parts(run: OpenRun<H>, source: S) -> Table<H, S>
+        requires { IsOpenedOf (hashes H.hash64 H.hash128) (S.bytes source) run }
+        ensures { result ≡ table_of source run }
+    {
+        Table { source, run }
     }
 }
 
 impl<H: BlockHash, S: FrameSource> Table<H, S> {
-    /// Opens a run in a source: reads, verifies and checks its filter, if it has one, and its
-    /// index, of whose heads it makes a table. No block is read.
+    /// Opens a run in a source, as [`OpenRun::open`] does.
     ///
     /// # Errors
     ///
-    /// The first one met, in this order: for the filter, if there is one, those of its frame,
-    /// `Error::InvalidTag` if it is of another type, and those of `StandardBloomFilterReader::new`;
-    /// then for the index those of its frame, its type, and `IndexBlock::check`. `Error::Io` only
-    /// where the source failed. `Error::Memory` if an allocation fails. The source is returned with
-    /// the error.
+    /// Those of [`OpenRun::open`]. The source is returned with the error.
     pub fn open(
         alloc: Global,
         source: S,
@@ -355,14 +283,8 @@ impl<H: BlockHash, S: FrameSource> Table<H, S> {
             (kept_of (hashes H.hash64 H.hash128) all handles) e.error)) }
     {
         let mut source = source;
-        match kept_from::<H, S>(alloc, &mut source, &handles) {
-            Ok((filter, index)) => Ok(Table {
-                source,
-                handles,
-                filter,
-                index,
-                hash: PhantomData,
-            }),
+        match OpenRun::open(alloc, &mut source, &RunPlace::Whole, handles) {
+            Ok(run) => Ok(Table { source, run }),
             Err(error) => Err(OpenError { error, source }),
         }
     }
@@ -405,7 +327,7 @@ impl<H: BlockHash> Table<H, MemorySource> {
         requires { IsSoundRun (hashes H.hash64 H.hash128) self.now.source.inner self.now.handles }
         ensures { result ≡ record { bytes = self.now.source.inner; handles = self.now.handles } }
     {
-        let index = IndexSearch::new(self.index.by_ref());
-        RunRef::with_index(self.source.bytes().as_slice(), &self.handles, index)
+        let index = IndexSearch::new(self.run.index().by_ref());
+        RunRef::with_index(self.source.bytes().as_slice(), self.run.handles(), index)
     }
 }

@@ -2,7 +2,7 @@ use Rattle.std.proofs.Common.{◌≡◌, ◌+◌, ◌-◌, ◌≤◌, arith, sym
 use Rattle.std.proofs.lemmas.Result.{err_from_is_err_and}
 use Rattle.sstable_blocks.specs.Prelude.{HandleParts}
 use Rattle.sstable_blocks.specs.BlockLaws.{NotIo}
-use Rattle.sst_parts.specs.Parts.{IsInside}
+use Rattle.sstable_blocks.specs.RunPlaces.{IsInside}
 use Rattle.sst_parts.proofs.Reading.Places.{footer_fails, footer_read, on_ok, part_inside, short}
 use Rattle.sstable_blocks.specs.FooterLaws.{failed_not_io, handles_not_io}
 use Rattle.sst_parts.proofs.part.places_from.Goals as goal

@@ -1,8 +1,5 @@
-use Rattle.sstable_blocks.specs.RunReading.{hashes}
-use Rattle.sstable_blocks.specs.TableCountLaws.{block_placed_ok}
+use Rattle.sstable_blocks.proofs.Reading.Placed.{asks_whole}
 use Rattle.sstable_blocks.proofs.run.checked.data_block_from.Goals as goal
 
-pub returns-clause-place : goal.returns-clause-place
-returns-clause-place g c =
-    let a = c.in_ok-block.ensures in
-    block_placed_ok (hashes g.H.BlockHash.hash64 g.H.BlockHash.hash128) _ _ c.in_ok-block.block _ _ c.check_once.ensures.parts a.cells a.exact
+pub returns-clause-source : goal.returns-clause-source
+returns-clause-source g c = asks_whole _ _ _ _ 1 _ _ _ c.data_block_from.ensures.source c.data_block_from.ensures.asked

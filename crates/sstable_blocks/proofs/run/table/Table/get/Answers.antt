@@ -1,28 +1,12 @@
-use Rattle.std.proofs.Common.{◌<◌, ◌∙◌, subst, IfSome}
-use Rattle.sst_base.specs.Counted.{CountsBetween}
-use Rattle.sstable_blocks.specs.ReadCosts.{heads_most_in, entries_most_in}
-use Rattle.sstable_blocks.specs.RunReading.{hashes, read_checked}
-use Rattle.sstable_blocks.specs.Sources.{GivesOr}
-use Rattle.sstable_blocks.proofs.Reading.Answered.{sound_on}
-use Rattle.sstable_blocks.specs.KeptLaws.{checked_on}
-use Rattle.sstable_blocks.specs.TableCountLaws.{kept_counts}
+use Rattle.std.proofs.Common.{subst}
+use Rattle.sst_block_core.specs.Handles.{handles}
+use Rattle.sstable_blocks.specs.Lookup.{handle_for}
+use Rattle.sstable_blocks.specs.Sources.{AsksExactly, UsesSource}
+use Rattle.sstable_blocks.specs.Tables.{frames_by, kept_says}
+use Rattle.sstable_blocks.proofs.Reading.Placed.{asks_whole}
 use Rattle.sstable_blocks.proofs.run.table.Table.get.Goals as goal
 
-pub returns-clause-exact : goal.returns-clause-exact
-returns-clause-exact g c =
-    let h = hashes g.H.BlockHash.hash64 g.H.BlockHash.hash128 in
-    subst (λ w. IfSome (g.S.FrameSource.bytes w.source) (λ all. GivesOr (g.S.FrameSource.failures w.source < g.S.FrameSource.failures c.read_by_kept.new.source) (g.S.FrameSource.is_reliable w.source) (λ x. x) c.read_by_kept.result (read_checked h all w.handles c.args.needle.now c.args.seqno)))
-    c.self.view_is
-    (checked_on h _ c.self.inside.handles _ _ _ c.args.needle.now c.args.seqno _ _ _ c.self.invariant.0 (rw (c.new.ensures ∙ c.by_ref.ensures) at c.read_by_kept.ensures.exact))
-
-pub returns-clause-sound : goal.returns-clause-sound
-returns-clause-sound g c = sound_on (hashes g.H.BlockHash.hash64 g.H.BlockHash.hash128) _ _ _ _ c.args.self.now.handles _ _
-    (λ all blocks sound. c.sound_is_read.ensures (hashes g.H.BlockHash.hash64 g.H.BlockHash.hash128) blocks all c.args.self.now.handles c.args.needle.now c.args.seqno g.met.H.BlockHash.hash128_fits sound)
-    (returns-clause-exact g c)
-
-pub returns-clause-counts : goal.returns-clause-counts
-returns-clause-counts g c =
-    let h = hashes g.H.BlockHash.hash64 g.H.BlockHash.hash128 in
-    subst (λ w. IfSome (g.S.FrameSource.bytes w.source) (λ all. CountsBetween c.args.steps.now c.read_by_kept.new.steps (0, 0) (heads_most_in all w.handles c.args.needle.now c.args.seqno, entries_most_in all w.handles c.args.needle.now c.args.seqno)))
-    c.self.view_is
-    (kept_counts h _ c.self.inside.handles _ _ _ c.args.needle.now c.args.seqno _ _ c.self.invariant.0 (rw (c.new.ensures ∙ c.by_ref.ensures) at c.read_by_kept.ensures.counts))
+pub returns-clause-source : goal.returns-clause-source
+returns-clause-source g c =
+    subst (λ w. UsesSource g.S.FrameSource.bytes g.S.FrameSource.failures g.S.FrameSource.reads g.S.FrameSource.is_reliable (AsksExactly (frames_by (kept_says g.H.BlockHash.hash64 w.filter c.args.needle.now) (handle_for handles c.args.needle.now c.args.seqno w.index))) w.source c.get.new.source c.get.result)
+    c.self.view_is (asks_whole _ _ _ _ _ _ _ _ c.get.ensures.source c.get.ensures.asked)
