@@ -1,6 +1,6 @@
 //! Reads of many keys of a parted table, one after the other.
 ghost use Rattle.std.specs.Prelude.{◌≡◌, ◌+◌, ◌<◌, ◌≤◌, ◌^◌, None, Ok, Some, IfErr, IfOk, IfSome};
-ghost use Rattle.std.specs.Prelude.{OnErr, OnOk, false, true};
+ghost use Rattle.std.specs.Prelude.{OnErr, OnOk, false, true, ℕ, List};
 ghost use Rattle.sst_parts.specs.PartReaders.{IsOpenPart, IsPartsReaderOf, last_range, part_frames};
 ghost use Rattle.sst_parts.specs.PartReaders.{needles_frames, read_open, read_open_by_top};
 ghost use Rattle.sst_parts.specs.Parts.{places_in};

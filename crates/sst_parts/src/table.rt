@@ -82,6 +82,24 @@ fn read_by_tops<H: BlockHash, S: FrameSource>(
     }
 }
 
+// The first match of each needle by the index of the parts.
+fn read_many_by_tops<H: BlockHash, S: FrameSource>(
+    alloc: Global,
+    source: &mut S,
+    index: &IndexBlock,
+    needles: &[Needle<'_>],
+    steps: &mut Steps,
+) -> Result<Vec<Option<InternalValue>>>
+    ensures source { UsesSource S.bytes S.failures S.reads S.is_reliable
+        (AsksUpTo (needles_frames index.now.items None needles.now)) source.old source.new result }
+    ensures exact { ReadsAs S.bytes S.failures S.is_reliable source.old source.new (λ v. v.items)
+        result (λ all. read_each (λ n. read_open_by_top (hashes H.hash64 H.hash128) all
+        (handle_for handles n.key.now n.seqno index.now.items) n.key.now n.seqno) needles.now) }
+{
+    let mut reader = PartsReader::<H>::new(index);
+    read_many(alloc, source, &mut reader, needles, steps)
+}
+
 /// A parted table in a source. The index of its parts was verified and checked when it was opened,
 /// and is kept, with the table of its heads; of the parts nothing is kept.
 ///
@@ -222,8 +240,7 @@ impl<H: BlockHash, S: FrameSource> PartedTable<H, S> {
             (hashes H.hash64 H.hash128) self.old.top needles.now (λ v. v.items) result) }
     {
         open_part_is_read();
-        let mut reader = PartsReader::<H>::new(&self.index);
-        read_many(alloc, &mut self.source, &mut reader, needles, steps)
+        read_many_by_tops::<H, S>(alloc, &mut self.source, &self.index, needles, steps)
     }
 
     /// Reads the bytes of the part of the handle at an index of the index of the parts, by one

@@ -10,6 +10,7 @@ use Rattle.sst_parts.specs.Parts.{IsParted, IsStoredPart, places_in, tops_at}
 use Rattle.sst_parts.proofs.Reading.Openings.{part_ends}
 use Rattle.sst_parts.proofs.Reading.PartReads.{places_of_table, same_ok, tops_read}
 use Rattle.sstable_blocks.specs.Blocks.{joined}
+use Rattle.sstable_blocks.specs.CheckedLaws.{gives_or_later}
 use Rattle.sstable_blocks.specs.Filter.{Filter}
 use Rattle.sstable_blocks.specs.KeptLaws.{kept_is_checked, kept_ok}
 use Rattle.sstable_blocks.specs.Lookup.{IsEnd, first_in, handle_for, place_for}
@@ -90,68 +91,71 @@ module _ (c : Hashes) (sums : (xs : List ℕ) → c.hash128 xs < 2 ^ 128)
     (index_verdict : (p : List ℕ) → IndexVerdict (trailer_in p) p (index_check p))
     (index_read : (r : ℕ) (p : List ℕ) (items : List Handle) → length p < 2 ^ 32 → IsIndexBlock p items r → IndexPasses r p × (items_in handles p ≡ items) × ((trailer_in p).interval ≡ r))
   where
-  module _ (bytes : List ℕ) where
-    index_at : (hs : List Handle) (h : HandleParts) → IsStoredIndex c bytes hs h → handles_at c bytes h ≡ Ok hs
-    index_at hs h s =
-        let p = s.payload in
-        let framed = s.framed in
-        let short : length p < 2 ^ 32 = omega arith in
-        let read = index_read s.interval p hs short s.is_block in
-        let passes : IndexPassesBy (trailer_in p).interval (trailer_in p) p = subst (λ q. IndexPassesBy q (trailer_in p) p) (sym read.2) read.0 in
-        bind_to _ _ p _ (framed_is_read c types.Index bytes p h sums short s.frame) (index_ok (trailer_in p) p (index_check p) (index_verdict p) passes ∙ ap (λ xs. Ok xs) read.1)
+    module _ (bytes : List ℕ) where
+      index_at : (hs : List Handle) (h : HandleParts) → IsStoredIndex c bytes hs h → handles_at c bytes h ≡ Ok hs
+      index_at hs h s =
+          let p = s.payload in
+          let framed = s.framed in
+          let short : length p < 2 ^ 32 = omega arith in
+          let read = index_read s.interval p hs short s.is_block in
+          let passes : IndexPassesBy (trailer_in p).interval (trailer_in p) p = subst (λ q. IndexPassesBy q (trailer_in p) p) (sym read.2) read.0 in
+          bind_to _ _ p _ (framed_is_read c types.Index bytes p h sums short s.frame) (index_ok (trailer_in p) p (index_check p) (index_verdict p) passes ∙ ap (λ xs. Ok xs) read.1)
 
-    index_lies : (hs : List Handle) (h : HandleParts) → IsStoredIndex c bytes hs h → hs ≡ index_in bytes h
-    index_lies hs h s =
-        let p = s.payload in
-        let framed = s.framed in
-        let short : length p < 2 ^ 32 = omega arith in
-        let read = index_read s.interval p hs short s.is_block in
-        sym (ap (λ q. items_in handles q) (frame_range c types.Index bytes p h s.frame).1 ∙ read.1)
+      index_lies : (hs : List Handle) (h : HandleParts) → IsStoredIndex c bytes hs h → hs ≡ index_in bytes h
+      index_lies hs h s =
+          let p = s.payload in
+          let framed = s.framed in
+          let short : length p < 2 ^ 32 = omega arith in
+          let read = index_read s.interval p hs short s.is_block in
+          sym (ap (λ q. items_in handles q) (frame_range c types.Index bytes p h s.frame).1 ∙ read.1)
 
-    filter_at_place : (o : Option HandleParts) (items : List Entry) → IfSome o (IsStoredFilter c bytes items) → (f : Option (List ℕ)) × (filter_kept c bytes o ≡ Ok f)
-    filter_at_place None items s = (None, refl)
-    filter_at_place (Some g) items s =
-        let p = s.payload in
-        let framed = s.framed in
-        let short : length p < 2 ^ 32 = omega arith in
-        (Some p, bind_to _ _ p (Ok (Some p)) (framed_is_read c types.Filter bytes p g sums short s.frame) (ap (λ r. r >>= (λ (x : Filter). Ok (Some p))) s.reads))
+      filter_at_place : (o : Option HandleParts) (items : List Entry) → IfSome o (IsStoredFilter c bytes items) → (f : Option (List ℕ)) × (filter_kept c bytes o ≡ Ok f)
+      filter_at_place None items s = (None, refl)
+      filter_at_place (Some g) items s =
+          let p = s.payload in
+          let framed = s.framed in
+          let short : length p < 2 ^ 32 = omega arith in
+          (Some p, bind_to _ _ p (Ok (Some p)) (framed_is_read c types.Filter bytes p g sums short s.frame) (ap (λ r. r >>= (λ (x : Filter). Ok (Some p))) s.reads))
 
-    run_opens : (blocks : List (List Entry)) (places : RunHandles) → IsSound c blocks bytes places → (f : Option (List ℕ)) × (hs : List Handle) × IsKeptOf c places f hs (interval_in bytes places.index) bytes
-    run_opens blocks places s =
-        let f = filter_at_place places.filter (joined blocks) s.filter in
-        (f.0, s.handles, record {
-          filter_is = f.1;
-          index_is = index_at s.handles places.index s.index;
-          place = record { index_is = index_lies s.handles places.index s.index; interval_is = refl };
-        })
+      run_opens : (blocks : List (List Entry)) (places : RunHandles) → IsSound c blocks bytes places → (f : Option (List ℕ)) × (hs : List Handle) × IsKeptOf c places f hs (interval_in bytes places.index) bytes
+      run_opens blocks places s =
+          let f = filter_at_place places.filter (joined blocks) s.filter in (
+            f.0,
+            s.handles,
+            record {
+              filter_is = f.1;
+              index_is = index_at s.handles places.index s.index;
+              place = record { index_is = index_lies s.handles places.index s.index; interval_is = refl };
+            },
+          )
 
-  module _ (run_read : (blocks : List (List Entry)) (bytes : List ℕ) (h : RunHandles) (needle : List ℕ) (seqno : ℕ) → IsSound c blocks bytes h → read_checked c bytes h needle seqno ≡ Ok (first_match entries needle seqno (joined blocks)))
-      (match : (needle : List ℕ) (seqno : ℕ) (parts : List (List (List Entry))) (hs : List Handle) → AllZip (λ part h. IsEnd entries handles (joined part) h) parts hs → IsOrdered entries (joined (joined parts))
-      → first_match entries needle seqno (joined (joined parts)) ≡ first_in entries needle seqno (option_map joined (slice_get parts (place_for handles needle seqno hs))))
-      (bytes needle : List ℕ) (seqno : ℕ)
-    where
-    read_one : (h : Handle) (part : List (List Entry)) → IsStoredPart c bytes part h → read_open c bytes (range_of h) needle seqno ≡ Ok (first_match entries needle seqno (joined part))
-    read_one h part s =
-        let k = run_opens (part_in bytes (range_of h)) part s.places s.sound in
-        open_is_checked c (range_of h) bytes (record { handles = s.places; filter = k.0; index = k.1; interval = interval_in (part_in bytes (range_of h)) s.places.index }) needle seqno
-        (places_of_table bytes (range_of h) s.places s.inside s.footer) k.2
-        ∙ run_read part (part_in bytes (range_of h)) s.places needle seqno s.sound
+    module _ (run_read : (blocks : List (List Entry)) (bytes : List ℕ) (h : RunHandles) (needle : List ℕ) (seqno : ℕ) → IsSound c blocks bytes h → read_checked c bytes h needle seqno ≡ Ok (first_match entries needle seqno (joined blocks)))
+        (match : (needle : List ℕ) (seqno : ℕ) (parts : List (List (List Entry))) (hs : List Handle) → AllZip (λ part h. IsEnd entries handles (joined part) h) parts hs → IsOrdered entries (joined (joined parts))
+        → first_match entries needle seqno (joined (joined parts)) ≡ first_in entries needle seqno (option_map joined (slice_get parts (place_for handles needle seqno hs))))
+        (bytes needle : List ℕ) (seqno : ℕ)
+      where
+        read_one : (h : Handle) (part : List (List Entry)) → IsStoredPart c bytes part h → read_open c bytes (range_of h) needle seqno ≡ Ok (first_match entries needle seqno (joined part))
+        read_one h part s =
+            let k = run_opens (part_in bytes (range_of h)) part s.places s.sound in
+            open_is_checked c (range_of h) bytes (record { handles = s.places; filter = k.0; index = k.1; interval = interval_in (part_in bytes (range_of h)) s.places.index }) needle seqno
+            (places_of_table bytes (range_of h) s.places s.inside s.footer) k.2
+            ∙ run_read part (part_in bytes (range_of h)) s.places needle seqno s.sound
 
-    read_at : (parts : List (List (List Entry))) (hs : List Handle) (n : ℕ) → AllZip (IsStoredPart c bytes) parts hs → read_open_by_top c bytes (slice_get hs n) needle seqno ≡ Ok (first_in entries needle seqno (option_map joined (slice_get parts n)))
-    read_at [] [] n s = refl
-    read_at [] (h ∷ hs) n s = absurd s
-    read_at (b ∷ bs) [] n s = absurd s
-    read_at (b ∷ bs) (h ∷ hs) zero s = read_one h b s.0
-    read_at (b ∷ bs) (h ∷ hs) (suc n) s = read_at bs hs n s.1
+        read_at : (parts : List (List (List Entry))) (hs : List Handle) (n : ℕ) → AllZip (IsStoredPart c bytes) parts hs → read_open_by_top c bytes (slice_get hs n) needle seqno ≡ Ok (first_in entries needle seqno (option_map joined (slice_get parts n)))
+        read_at [] [] n s = refl
+        read_at [] (h ∷ hs) n s = absurd s
+        read_at (b ∷ bs) [] n s = absurd s
+        read_at (b ∷ bs) (h ∷ hs) zero s = read_one h b s.0
+        read_at (b ∷ bs) (h ∷ hs) (suc n) s = read_at bs hs n s.1
 
-    -- a read of a part that stays open gives the first match of all parts
-    pub open_parted_read : (parts : List (List (List Entry))) (h : HandleParts) (tops : List Handle) → IsParted c parts bytes h → tops_at c bytes h ≡ Ok tops
-        → read_open_by_top c bytes (handle_for handles needle seqno tops) needle seqno ≡ Ok (first_match entries needle seqno (joined (joined parts)))
-    open_parted_read parts h tops s read =
-        let same : tops ≡ s.tops = same_ok (tops_at c bytes h) tops s.tops read (tops_read c sums index_verdict index_read bytes s.tops h s.index) in
-        ap (λ hs. read_open_by_top c bytes (handle_for handles needle seqno hs) needle seqno) same
-        ∙ read_at parts s.tops (place_for handles needle seqno s.tops) s.stored
-        ∙ ap (λ o. Ok o) (sym (match needle seqno parts s.tops (part_ends c bytes parts s.tops s.stored) s.ordered))
+        -- a read of a part that stays open gives the first match of all parts
+        pub open_parted_read : (parts : List (List (List Entry))) (h : HandleParts) (tops : List Handle) → IsParted c parts bytes h → tops_at c bytes h ≡ Ok tops
+            → read_open_by_top c bytes (handle_for handles needle seqno tops) needle seqno ≡ Ok (first_match entries needle seqno (joined (joined parts)))
+        open_parted_read parts h tops s read =
+            let same : tops ≡ s.tops = same_ok (tops_at c bytes h) tops s.tops read (tops_read c sums index_verdict index_read bytes s.tops h s.index) in
+            ap (λ hs. read_open_by_top c bytes (handle_for handles needle seqno hs) needle seqno) same
+            ∙ read_at parts s.tops (place_for handles needle seqno s.tops) s.stored
+            ∙ ap (λ o. Ok o) (sym (match needle seqno parts s.tops (part_ends c bytes parts s.tops s.stored) s.ordered))
 
 -- reads that each succeed
 each_found : {N : Type 0} (read : N → Result (Option Entry) Error) (found : N → Option Entry) → ((n : N) → read n ≡ Ok (found n)) → (ns : List N) → read_each read ns ≡ Ok (map found ns)
@@ -174,3 +178,17 @@ finds_all c None P R view r top tops needles read kept given = tt
 finds_all c (Some all) P R view r top tops needles read kept given = λ parts is.
     let each = each_found (λ n. read_open_by_top c all (handle_for handles n.key.now n.seqno tops) n.key.now n.seqno) (λ n. first_match entries n.key.now n.seqno (joined (joined parts))) (λ n. read all parts n.key.now n.seqno is kept) needles in
     found_all P R view r _ _ each given
+
+-- by the handle of a part that was found
+module _ (c : Hashes) (needle : List ℕ) (seqno : ℕ) where
+  at_open_top : (all : List ℕ) (x : Option Handle) (k : HandleParts) → option_map range_of x ≡ Some k → read_open_by_top c all x needle seqno ≡ read_open c all k needle seqno
+  at_open_top all None k e = cc
+  at_open_top all (Some h) k e = (let same : range_of h ≡ k = cc in ap (λ g. read_open c all g needle seqno) same)
+
+  -- a read of the part that was opened for it
+  pub open_top_read : (before after : Option (List ℕ)) (x : Option Handle) (q : Option HandleParts) (k : HandleParts) (P Q R T : Type 0) (r : Result (Option Entry) Error) → q ≡ option_map range_of x → q ≡ Some k → after ≡ before → (P → Q) → (T → R)
+      → IfSome after (λ all. GivesOr P R (λ y. y) r (read_open c all k needle seqno)) → IfSome before (λ all. GivesOr Q T (λ y. y) r (read_open_by_top c all x needle seqno))
+  open_top_read None after x q k P Q R T r is at same grow kept given = tt
+  open_top_read (Some all) after x q k P Q R T r is at same grow kept given =
+      let here : GivesOr P R (λ y. y) r (read_open c all k needle seqno) = subst (λ o. IfSome o (λ all. GivesOr P R (λ y. y) r (read_open c all k needle seqno))) same given in
+      subst (GivesOr Q T (λ y. y) r) (sym (at_open_top all x k (sym is ∙ at))) (gives_or_later P Q R T (λ y. y) r (read_open c all k needle seqno) grow kept here)

@@ -19,4 +19,4 @@ pub returns-clause-opened : goal.returns-clause-opened
 returns-clause-opened g c =
     let p = c.in_ok-handles.ensures in
     let o = c.in_ok-run.ensures in
-    opened (hashes g.H.BlockHash.hash64 g.H.BlockHash.hash128) c.args.range.now _ _ _ _ p.source.same p.inside p.exact o.handles o.kept
+    rw c.new.ensures (opened (hashes g.H.BlockHash.hash64 g.H.BlockHash.hash128) c.args.range.now _ _ _ _ p.source.same p.inside p.exact o.handles o.kept)

@@ -11,14 +11,14 @@ use Rattle.sst_parts.proofs.table.PartedTable.get_many.Goals as goal
 
 pub returns-clause-source : goal.returns-clause-source
 returns-clause-source g c =
-    subst (λ w. UsesSource g.S.FrameSource.bytes g.S.FrameSource.failures g.S.FrameSource.reads g.S.FrameSource.is_reliable (AsksUpTo (needles_frames w.tops None c.args.needles.now)) w.source c.read_many.new.source c.read_many.result)
-    c.self.view_is (rw c.new-reader.ensures at c.read_many.ensures.source)
+    subst (λ w. UsesSource g.S.FrameSource.bytes g.S.FrameSource.failures g.S.FrameSource.reads g.S.FrameSource.is_reliable (AsksUpTo (needles_frames w.tops None c.args.needles.now)) w.source c.read_many_by_tops.new.source c.read_many_by_tops.result)
+    c.self.view_is c.read_many_by_tops.ensures.source
 
 pub returns-clause-exact : goal.returns-clause-exact
 returns-clause-exact g c =
     let h = hashes g.H.BlockHash.hash64 g.H.BlockHash.hash128 in
-    subst (λ w. IfSome (g.S.FrameSource.bytes w.source) (λ all. GivesOr (g.S.FrameSource.failures w.source < g.S.FrameSource.failures c.read_many.new.source) (g.S.FrameSource.is_reliable w.source) (λ v. v.items) c.read_many.result (read_each (λ n. read_open_by_top h all (handle_for handles n.key.now n.seqno w.tops) n.key.now n.seqno) c.args.needles.now)))
-    c.self.view_is (rw c.new-reader.ensures at c.read_many.ensures.exact)
+    subst (λ w. IfSome (g.S.FrameSource.bytes w.source) (λ all. GivesOr (g.S.FrameSource.failures w.source < g.S.FrameSource.failures c.read_many_by_tops.new.source) (g.S.FrameSource.is_reliable w.source) (λ v. v.items) c.read_many_by_tops.result (read_each (λ n. read_open_by_top h all (handle_for handles n.key.now n.seqno w.tops) n.key.now n.seqno) c.args.needles.now)))
+    c.self.view_is c.read_many_by_tops.ensures.exact
 
 pub returns-clause-sound : goal.returns-clause-sound
 returns-clause-sound g c =

@@ -1,0 +1,7 @@
+use Rattle.sst_parts.proofs.any_table.AnyTable.get_many.Goals as goal
+
+pub returns-in-Plain-clause-exact : goal.returns-in-Plain-clause-exact
+returns-in-Plain-clause-exact g c = rw c.in-Plain.is c.get_many.ensures.exact
+
+pub returns-in-Parted-clause-exact : goal.returns-in-Parted-clause-exact
+returns-in-Parted-clause-exact g c = rw c.in-Parted.is c.get_many-in-Parted.ensures.exact
