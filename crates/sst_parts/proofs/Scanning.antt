@@ -4,3 +4,4 @@ pub mod PartEnds
 pub mod PartedScans
 pub mod PartSteps
 pub mod Reaching
+pub mod RefSteps

@@ -9,3 +9,4 @@ pub mod PartWriting
 pub mod PartKinds
 pub mod PartChecks
 pub mod PartFinds
+pub mod RefScans

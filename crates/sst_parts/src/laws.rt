@@ -1,7 +1,7 @@
 //! Laws of parted tables. Each function does nothing, and its contract is one law: a caller has it
 //! in its proof by calling the function.
 ghost use Rattle.std.specs.Prelude.{◌≡◌, ◌++◌, ◌<◌, ◌^◌, ℕ, List, None, Ok, Option, map};
-ghost use Rattle.std.specs.Prelude.{slice_get};
+ghost use Rattle.std.specs.Prelude.{Some, slice_get};
 ghost use Rattle.std.specs.List.{AllZip};
 ghost use Rattle.std.specs.Option.{option_map};
 ghost use Rattle.sst_parts.specs.declared.checking.PartedSummary.{PartedSummary};
@@ -10,6 +10,7 @@ ghost use Rattle.sst_parts.specs.PartFinds.{FoundPart, IsReadIndex};
 ghost use Rattle.sst_parts.specs.PartReaders.{read_open_by_top};
 ghost use Rattle.sst_parts.specs.Parts.{IsParted, read_by_top, tops_at, tops_by_footer};
 ghost use Rattle.sst_parts.specs.PartScans.{parts_read};
+ghost use Rattle.sst_parts.specs.RefScans.{IsScannedPart};
 ghost use Rattle.sst_parts.specs.PartWriting.{IsPartedFile, IsPartedLayout};
 ghost use Rattle.sstable_blocks.specs.Blocks.{joined};
 ghost use Rattle.sstable_blocks.specs.Lookup.{IsEnd, first_in, handle_for, place_for};
@@ -68,6 +69,21 @@ pub fn parted_is_scanned()
         → tops_at c bytes top ≡ Ok tops
         → parts_read c bytes r (handles_within r tops)
         ≡ map Ok (within r (map plain (joined (joined parts)))) }
+{
+    index_check_is_by_stages();
+    index_block_is_read();
+    sound_run_is_read();
+    sound_is_scanned();
+}
+
+/// The part of each handle of a parted table is stored in its range, and is read as its entries in a
+/// range of keys.
+pub fn parted_parts_are_scanned()
+    ensures { (c : Hashes) (parts : List (List (List Entry))) (bytes : List ℕ) (top : HandleParts)
+        (tops : List Handle) (r : KeyRange) (i : ℕ) (h : Handle)
+        → ((xs : List ℕ) → c.hash128 xs < 2 ^ 128) → IsParted c parts bytes top
+        → tops_at c bytes top ≡ Ok tops → slice_get tops i ≡ Some h
+        → IsScannedPart c bytes r h }
 {
     index_check_is_by_stages();
     index_block_is_read();

@@ -1,7 +1,7 @@
 //! Over `sstable_blocks`: parted tables, which are table files one after the other and an index
 //! over them, of which a read reads of one part the footer, the filter, the index and one block;
-//! scans of them from both ends, a part at a time; reads of many keys of a table, each block once;
-//! and a cache of blocks, which tables share.
+//! scans of them from both ends, a part at a time, also over borrowed bytes without checks; reads
+//! of many keys of a table, each block once; and a cache of blocks, which tables share.
 #![tactic(auto)]
 
 pub mod any_scan;
@@ -12,8 +12,10 @@ pub mod checking;
 mod closed;
 pub mod laws;
 mod part;
+mod part_range;
 pub mod parted_ref;
 pub mod parts_reader;
+pub mod ref_scan;
 pub mod scan;
 mod scan_end;
 pub mod table;
@@ -26,6 +28,7 @@ pub use cached_table::CachedTable;
 pub use checking::PartedSummary;
 pub use parted_ref::PartedRef;
 pub use parts_reader::PartsReader;
+pub use ref_scan::PartedRefScan;
 pub use scan::PartedScan;
 pub use table::PartedTable;
 pub use writer::{PartForm, PartSizes, PartWriter};

@@ -1,29 +1,36 @@
 //! Parted tables over borrowed bytes, read without checks and without memory.
-ghost use Rattle.std.specs.Prelude.{◌≡◌, ℕ, ◌+◌, ◌≤◌, List, IfOk, Ok, length};
+ghost use Rattle.std.specs.Prelude.{◌≡◌, ℕ, ◌+◌, ◌<◌, ◌≤◌, List, IfOk, Ok, Some, length};
+ghost use Rattle.std.specs.Prelude.{slice_get};
 ghost use Rattle.sst_parts.specs.PartChecks.{ForParted, IsPartedSummary, IsPartedTable};
 ghost use Rattle.sst_parts.specs.PartChecks.{check_parted, summary_of_parts};
 ghost use Rattle.sst_parts.specs.Parts.{IsStoredPart, most_by_places, parted_most};
 ghost use Rattle.sstable_blocks.specs.RunPlaces.{part_in};
 ghost use Rattle.sst_parts.specs.Parts.{places_in, tops_at};
+ghost use Rattle.sst_parts.specs.PartScans.{part_reads};
 ghost use Rattle.sstable_blocks.specs.Blocks.{joined};
 ghost use Rattle.sstable_blocks.specs.Footer.{table_handles};
 ghost use Rattle.sstable_blocks.specs.Opened.{IsFrameRange, payload_in, range_of};
 ghost use Rattle.sstable_blocks.specs.Prelude.{CountsBetween, Entry, entries, Handle, handles};
 ghost use Rattle.sstable_blocks.specs.Prelude.{IsIndexBlock, first_match};
 ghost use Rattle.sstable_blocks.specs.RunReading.{hashes};
+ghost use Rattle.sstable_blocks.specs.Scans.{entries_read, range_by};
+ghost use Rattle.sstable_blocks.specs.Sound.{IsSound};
 ghost use Rattle.sstable_blocks.specs.Sources.{GivesOr};
 
 use crate::checking::PartedSummary;
-use crate::laws::{parted_index_is_read, parted_is_accepted, parted_is_found};
+use crate::laws::{
+    parted_index_is_read, parted_is_accepted, parted_is_found, parted_parts_are_scanned,
+};
 use crate::part::find_in;
 use crate::table::PartedTable;
 use sstable_blocks::run::footer::FOOTER_LEN;
-use sstable_blocks::run::read::{index_over, payload_at};
-use sstable_blocks::run::{MemorySource, RunHandles, RunRef, decode_footer};
+use sstable_blocks::run::read::index_over;
+use sstable_blocks::run::{MemorySource, RunHandles, RunRef, RunScan, decode_footer};
 use sstable_blocks::table::index_block::IndexBlockRef;
 use sstable_blocks::{BlockHandle, BlockHash, EntryView, Result, SeqNo, Slice, Steps};
 use std::alloc::Global;
 use std::marker::{Model, PhantomData};
+use std::ops::Bound;
 
 // The bytes of a part.
 fn part_of<'a>(bytes: &'a [u8], part: &BlockHandle) -> &'a [u8]
@@ -47,6 +54,21 @@ fn places_of(file: &[u8]) -> RunHandles
     }
 }
 
+// The run of the part in a range.
+fn run_of<'a, H: BlockHash>(bytes: &'a [u8], part: &BlockHandle) -> RunRef<'a, H>
+    requires { (blocks : List (List Entry)) × (h : Handle) × (part.now ≡ range_of h)
+        × IsStoredPart (hashes H.hash64 H.hash128) bytes.now blocks h }
+    ensures bytes { result.bytes ≡ part_in bytes.now part.now }
+    ensures handles { table_handles (part_in bytes.now part.now) ≡ Ok result.handles }
+    ensures sound { (blocks : List (List Entry)) (h : Handle) → part.now ≡ range_of h
+        → IsStoredPart (hashes H.hash64 H.hash128) bytes.now blocks h
+        → IsSound (hashes H.hash64 H.hash128) blocks result.bytes result.handles }
+{
+    let file = part_of(bytes, part);
+    let places = places_of(file);
+    RunRef::new(file, &places)
+}
+
 // The first match in a part of a parted table.
 fn find_in_part<'a, H: BlockHash>(
     bytes: &'a [u8],
@@ -64,13 +86,7 @@ fn find_in_part<'a, H: BlockHash>(
         (most_by_places (part_in bytes.now part.now) (places_in bytes.now part.now) needle.now
         seqno) }
 {
-    let file = part_of(bytes, part);
-    let places = places_of(file);
-    let run = RunRef::<H>::new(file, &places);
-    match run.locate(needle, seqno, steps) {
-        None => None,
-        Some((frame, item)) => Some(EntryView::new(payload_at(file, &frame), item)),
-    }
+    run_of::<H>(bytes, part).find(needle, seqno, steps)
 }
 
 // Checks a whole parted table in memory. Nothing of it is copied.
@@ -185,5 +201,49 @@ impl<'a, H: BlockHash> PartedRef<'a, H> {
             None => None,
             Some(part) => find_in_part::<H>(self.bytes, &part, needle, seqno, steps),
         }
+    }
+
+    // The same table.
+    pub(crate) fn again(&self) -> PartedRef<'a, H>
+        ensures { result ≡ self.now }
+    {
+        PartedRef {
+            bytes: self.bytes,
+            top: self.top,
+            index: IndexBlockRef::new(self.index.as_slice()),
+            hash: PhantomData,
+        }
+    }
+
+    // The index of the parts.
+    pub(crate) fn index(&self) -> &IndexBlockRef<'a>
+        ensures { result.now.items ≡ self.now.tops }
+    {
+        &self.index
+    }
+
+    // States in a proof that the handles of the parts are those of the bytes.
+    pub(crate) fn note_tops(&self)
+        ensures { tops_at (hashes H.hash64 H.hash128) self.now.source self.now.top
+            ≡ Ok self.now.tops }
+    {
+        let _bytes = self.bytes;
+    }
+
+    // Scans the part at an index: its entries between two bounds.
+    pub(crate) fn scan_part<'k>(
+        &self,
+        index: usize,
+        from: Bound<&'k [u8]>,
+        to: Bound<&'k [u8]>,
+    ) -> RunScan<'a, 'k, H>
+        requires { index < length self.now.tops }
+        ensures { (h : Handle) → slice_get self.now.tops index ≡ Some h
+            → result.left ≡ entries_read (part_reads (hashes H.hash64 H.hash128) self.now.source
+            (range_by (λ k. k.now) from.entry to.entry) h) }
+    {
+        parted_parts_are_scanned();
+        let part = self.index.handle_at(index, &mut Steps::new());
+        run_of::<H>(self.bytes, &part).scan_range(from, to)
     }
 }

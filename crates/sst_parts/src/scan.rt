@@ -1,71 +1,27 @@
 //! Scans of parted tables: the entries within a range of keys, from both ends, a part at a time.
 ghost use Rattle.std.specs.Prelude.{◌≡◌, ◌+◌, ◌++◌, ◌<◌, ◌≤◌, true, nat_lt, length, IfOk, IfSome};
 ghost use Rattle.std.specs.Prelude.{OnOk};
-ghost use Rattle.std.specs.List.{count_by};
-ghost use Rattle.std.specs.Range.Bound.{bound_map};
 ghost use Rattle.std.specs.Result.{result_err};
 ghost use Rattle.std.specs.declared.ops.Bound.TheVariants.{Unbounded};
 ghost use Rattle.sst_parts.specs.PartScans.{BeginsPartScan, IsSamePartScan, OpensNext};
 ghost use Rattle.sst_parts.specs.PartScans.{ReadsFirstPart, ReadsLastPart, UsesPartScan, UsesParts};
 ghost use Rattle.sst_parts.specs.PartScans.{near_left, near_most};
 ghost use Rattle.sstable_blocks.specs.BlockReading.{seen_from};
-ghost use Rattle.sstable_blocks.specs.Ends.{IsFewer, hi_at, index_at, lo_at};
+ghost use Rattle.sstable_blocks.specs.Ends.{IsFewer};
 ghost use Rattle.sstable_blocks.specs.RunReading.{hashes};
-ghost use Rattle.sstable_blocks.specs.Scans.{EndsBy, GivesFirst, in_range, is_before, is_up_to};
-ghost use Rattle.sstable_blocks.specs.Scans.{handles_within, range_by};
+ghost use Rattle.sstable_blocks.specs.Scans.{EndsBy, GivesFirst, handles_within, in_range};
+ghost use Rattle.sstable_blocks.specs.Scans.{range_by};
 
 use crate::laws::parted_is_scanned;
+use crate::part_range::{parts_within, take_index};
 use crate::scan_end::ScanEnd;
 use crate::table::PartedTable;
 use sstable_blocks::run::FrameSource;
 use sstable_blocks::run::ends::Between;
-use sstable_blocks::table::block::bound::Bound as SeekBound;
-use sstable_blocks::{BlockHash, Error, IndexBlock, InternalValue, Result, Steps};
+use sstable_blocks::{BlockHash, Error, InternalValue, Result};
 use std::alloc::Global;
 use std::marker::Model;
 use std::ops::Bound;
-
-// How many parts end before the start of a range.
-fn parts_before(index: &IndexBlock, from: &Bound<&[u8]>) -> usize
-    ensures { result
-        ≡ count_by (λ h. is_before (bound_map (λ k. k.now) from.now) h.end_key) index.now.items }
-{
-    let mut steps = Steps::new();
-    match *from {
-        Bound::Included(start) => index.position(&SeekBound::below(start), &mut steps),
-        Bound::Excluded(start) => index.position(&SeekBound::up_to(start), &mut steps),
-        Bound::Unbounded => 0,
-    }
-}
-
-// How many parts end up to the end of a range.
-fn parts_up_to(index: &IndexBlock, to: &Bound<&[u8]>) -> usize
-    ensures { result
-        ≡ count_by (λ h. is_up_to (bound_map (λ k. k.now) to.now) h.end_key) index.now.items }
-{
-    let mut steps = Steps::new();
-    match *to {
-        Bound::Included(end) => index.position(&SeekBound::up_to(end), &mut steps),
-        Bound::Excluded(end) => index.position(&SeekBound::below(end), &mut steps),
-        Bound::Unbounded => index.len(),
-    }
-}
-
-// Takes the index at an end.
-fn take_index(back: bool, between: &mut Between) -> usize
-    requires { between.old.lo < between.old.hi }
-    ensures index { result ≡ index_at back between.old.lo between.old.hi }
-    ensures rest { (between.new.lo ≡ lo_at back between.old.lo)
-        × (between.new.hi ≡ hi_at back between.old.hi) }
-{
-    if back {
-        between.hi -= 1;
-        between.hi
-    } else {
-        between.lo += 1;
-        between.lo - 1
-    }
-}
 
 // The parts that a scan has not reached: those from an index up to another, without it. Clauses see
 // the table and the handles of these parts.
@@ -97,14 +53,8 @@ impl<H: BlockHash, S: FrameSource> Unreached<H, S> {
         ensures handles { result.handles
             ≡ handles_within (range_by (λ k. k.now) from.now to.now) table.tops }
     {
-        let lo = parts_before(table.index(), from);
-        let len = table.index().len();
-        let last = parts_up_to(table.index(), to);
-        let hi = if last < len { last + 1 } else { len };
-        Unreached {
-            table,
-            rest: Between { lo, hi },
-        }
+        let rest = parts_within(&table.index().by_ref(), from, to);
+        Unreached { table, rest }
     }
 
     // Whether a part was not reached.

@@ -5,8 +5,10 @@ use sst_base::{
     Block, BlockHandle, BlockOffset, BlockType, ByteSum, Error, HashRatio, InternalValue, Slice,
     Steps, ValueType,
 };
-use sst_block_core::{IndexBlock, KeyedBlockHandle};
-use sst_parts::{PartSizes, PartWriter, PartedRef, PartedScan, PartedSummary, PartedTable};
+use sst_block_core::{EntryView, IndexBlock, KeyedBlockHandle};
+use sst_parts::{
+    PartSizes, PartWriter, PartedRef, PartedRefScan, PartedScan, PartedSummary, PartedTable,
+};
 use sstable_blocks::run::{FrameSource, RunHandles, encode_footer};
 use sstable_blocks::{MemorySource, RunConfig};
 use std::alloc::Global;
@@ -354,6 +356,63 @@ fn parts_are_scanned_from_both_ends(rt: HostRuntime) {
     for (len, blocks, pattern) in &SCANS {
         assert!(rt; wrong_scanned(rt.alloc(), *len, *blocks, *pattern, true) == Ok(0));
         assert!(rt; wrong_scanned(rt.alloc(), *len, *blocks, *pattern, false) == Ok(0));
+    }
+}
+
+// Where an entry over borrowed bytes is.
+fn place_of_view(view: &EntryView<'_>) -> Place {
+    let (prefix, rest) = view.key_parts();
+    let last = rest.last().or(prefix.last()).copied();
+    (last.unwrap_or(0), view.seqno())
+}
+
+// How many steps of a scan over borrowed bytes give no entry that is wanted at its place, as of
+// `wrong_steps`.
+fn wrong_views(scan: &mut PartedRefScan<'_, '_, ByteSum>, wanted: &[Place], pattern: u64) -> u64 {
+    let mut wrong = 0u64;
+    let mut left = wanted;
+    for i in 0..60u64 {
+        let forwards = (pattern >> (i % 8)) % 2 == 1;
+        let found = if forwards {
+            scan.next()
+        } else {
+            scan.next_back()
+        };
+        let (want, rest) = next_wanted(left, forwards);
+        left = rest;
+        if found.as_ref().map(place_of_view) != want {
+            wrong = wrong.saturating_add(1);
+        }
+    }
+    wrong
+}
+
+// How many steps of scans of all keys, and of those behind the second one up to the fifth, over
+// borrowed bytes are wrong.
+fn wrong_in_borrowed(
+    alloc: Global,
+    table: &PartedRef<'_, ByteSum>,
+    pattern: u64,
+) -> sst_base::Result<u64> {
+    let all = wanted(alloc, 0, 12)?;
+    let some = wanted(alloc, 4, 9)?;
+    let wrong = wrong_views(&mut table.scan(), &all, pattern);
+    let mut scan = table.scan_range(Bound::Excluded(b"k\x03"), Bound::Included(b"k\x09"));
+    Ok(wrong.saturating_add(wrong_views(&mut scan, &some, pattern)))
+}
+
+// The same of a table in blocks of a length and parts of so many blocks.
+fn wrong_lent(alloc: Global, len: usize, blocks: usize, pattern: u64) -> sst_base::Result<u64> {
+    let (top, bytes) = written_with_top(alloc, len, PartSizes { blocks, bytes: 0 }, 10)?;
+    let bytes = Slice::from_vec(bytes)?;
+    let (table, _) = PartedRef::<ByteSum>::check(alloc, &bytes, &top)?;
+    wrong_in_borrowed(alloc, &table, pattern)
+}
+
+#[test]
+fn borrowed_parts_are_scanned_from_both_ends(rt: HostRuntime) {
+    for (len, blocks, pattern) in &SCANS {
+        assert!(rt; wrong_lent(rt.alloc(), *len, *blocks, *pattern) == Ok(0));
     }
 }
 

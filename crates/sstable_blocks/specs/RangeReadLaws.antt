@@ -12,7 +12,12 @@ use Rattle.sstable_blocks.specs.Blocks.{joined}
 use Rattle.sstable_blocks.specs.EndLaws.{ends_in_order, block_behind, back_in_order, tail_in_order}
 use Rattle.sstable_blocks.specs.Lookup.{IsEnd}
 use Rattle.sstable_blocks.specs.RisingLaws.{KeysRise, rise_tail, falls, counted, counted-cons, none_counted, between, between-more, between-none, between-first, lower_before, lower_up_to, ordered_rise}
-use Rattle.sstable_blocks.specs.Scans.{KeyRange, Read, is_before, is_up_to, in_range, within, handles_within}
+use Rattle.sstable_blocks.specs.Scans.{KeyRange, Read, entries_read, is_before, is_up_to, in_range, within, handles_within}
+
+-- the entries of what is read of entries
+pub entries_again : (xs : List Entry) → entries_read (map Ok xs) ≡ xs
+entries_again [] = refl
+entries_again (x ∷ xs) = ap (λ ys. x ∷ ys) (entries_again xs)
 
 -- what is read of entries
 abbrev pub read_all : KeyRange → List Entry → List Read

@@ -2,7 +2,7 @@
 use Rattle.std.proofs.Common.{◌≡◌, ℕ, zero, suc, ◌+◌, ◌<◌, ◌≤◌, ◌^◌, List, [], ◌∷◌, length, refl, sym, ◌∙◌, ap, subst, Option, Some, None, Ok}
 use Rattle.std.specs.List.{AllZip, slice_get}
 use Rattle.std.specs.Option.{option_map}
-use Rattle.sstable_blocks.specs.Prelude.{HandleParts, Counted, CountsBetween, Entry, index_check, IndexVerdict, entries, Handle, handles, IsIndexBlock, IndexPasses, IsOrdered, items_in, trailer_in, first_match, DataBlockParsedItem}
+use Rattle.sstable_blocks.specs.Prelude.{HandleParts, Counted, CountsBetween, Entry, index_check, IndexVerdict, entries, Handle, handles, IsIndexBlock, IndexPasses, IsOrdered, items_in, trailer_in, first_match}
 use Rattle.sstable_blocks.specs.BlockTypes as types
 use Rattle.sst_parts.specs.PartFinds.{FoundPart, IsReadIndex}
 use Rattle.sst_parts.specs.Parts.{IsParted, IsStoredPart, most_by_places, places_in, tops_at}
@@ -12,11 +12,11 @@ use Rattle.sst_parts.proofs.Reading.PartReads.{places_of_table, same_ok, tops_re
 use Rattle.sstable_blocks.specs.Blocks.{joined}
 use Rattle.sstable_blocks.specs.Footer.{table_handles}
 use Rattle.sstable_blocks.specs.Lookup.{IsEnd, first_in, handle_for, place_for}
-use Rattle.sstable_blocks.specs.Opened.{found_entry, range_of}
+use Rattle.sstable_blocks.specs.Opened.{range_of}
 use Rattle.sstable_blocks.specs.OpeningLaws.{frame_range}
 use Rattle.sstable_blocks.specs.ReadCosts.{CountsRead}
 use Rattle.sstable_blocks.specs.RunReading.{Hashes}
-use Rattle.sstable_blocks.specs.Sound.{ForSound, IsSound, IsSoundRun, RunParts}
+use Rattle.sstable_blocks.specs.Sound.{IsSound}
 use Rattle.sstable_blocks.specs.declared.run.RunHandles.{RunHandles}
 
 module _ (c : Hashes) (sums : (xs : List ℕ) → c.hash128 xs < 2 ^ 128)
@@ -62,23 +62,15 @@ module _ (c : Hashes) (bytes : List ℕ) (g : HandleParts) (blocks : List (List 
   same_places : (places : RunHandles) → table_handles (part_in bytes g) ≡ Ok places → d.places ≡ places
   same_places places read = same_ok (table_handles (part_in bytes g)) d.places places (ap (λ (k : HandleParts). table_handles (part_in bytes k)) is ∙ d.footer) read
 
-  pub sound_run : (places : RunHandles) → table_handles (part_in bytes g) ≡ Ok places → IsSoundRun c (part_in bytes g) places
-  sound_run places read =
-      (blocks, subst (λ (k : HandleParts). IsSound c blocks (part_in bytes k) places) (sym is) (subst (IsSound c blocks (part_in bytes (range_of h))) (same_places places read) d.sound))
+  -- its run is sound
+  pub sound_at : (places : RunHandles) → table_handles (part_in bytes g) ≡ Ok places → IsSound c blocks (part_in bytes g) places
+  sound_at places read =
+      subst (λ (k : HandleParts). IsSound c blocks (part_in bytes k) places) (sym is) (subst (IsSound c blocks (part_in bytes (range_of h))) (same_places places read) d.sound)
 
   pub counted : (places : RunHandles) (needle : List ℕ) (seqno : ℕ) (s t : Counted) → table_handles (part_in bytes g) ≡ Ok places → CountsRead (part_in bytes g) places needle seqno s t
       → CountsBetween s t (0, 0) (most_by_places (part_in bytes g) (places_in bytes g) needle seqno)
   counted places needle seqno s t read counts =
       subst (λ q. CountsBetween s t (0, 0) (most_by_places (part_in bytes g) q needle seqno)) (sym (places_of_table bytes g places inside read)) counts
-
-  -- what is found in the run of the file is the first match of the part
-  pub found_by : (file : List ℕ) (places : RunHandles) (run : RunParts) (needle : List ℕ) (seqno : ℕ) (r : Option (HandleParts × DataBlockParsedItem)) → file ≡ part_in bytes g → table_handles file ≡ Ok places → run ≡ record { bytes = file; handles = places }
-      → ForSound c run.bytes run.handles (λ bs. found_entry run.bytes r ≡ first_match entries needle seqno (joined bs)) → found_entry file r ≡ first_match entries needle seqno (joined blocks)
-  found_by file places run needle seqno r at read of found =
-      let there : table_handles (part_in bytes g) ≡ Ok places = ap table_handles (sym at) ∙ read in
-      let moved = subst (λ (k : HandleParts). IsSound c blocks (part_in bytes k) places) (sym is) (subst (IsSound c blocks (part_in bytes (range_of h))) (same_places places there) d.sound) in
-      let sound : IsSound c blocks file places = subst (λ xs. IsSound c blocks xs places) (sym at) moved in
-      subst (λ (q : RunParts). ForSound c q.bytes q.handles (λ bs. found_entry q.bytes r ≡ first_match entries needle seqno (joined bs))) of found blocks sound
 
 -- what is found by the handle of a part
 module _ (c : Hashes) (bytes needle : List ℕ) (seqno : ℕ) (first : Option Entry) where

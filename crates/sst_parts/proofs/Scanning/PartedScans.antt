@@ -1,13 +1,14 @@
 -- A scan of a parted table reads the entries of all parts within the range.
-use Rattle.std.proofs.Common.{◌≡◌, ℕ, ◌+◌, ◌<◌, ◌^◌, cond, List, [], ◌∷◌, length, map, refl, arith, sym, ◌∙◌, ap, subst, Option, Some, None, IfSome, Result, Ok, Err}
+use Rattle.std.proofs.Common.{◌≡◌, ℕ, zero, suc, ◌+◌, ◌<◌, ◌^◌, cond, List, [], ◌∷◌, length, map, refl, arith, sym, ◌∙◌, ap, subst, Option, Some, None, IfSome, Result, Ok, Err}
 use Rattle.std.proofs.lemmas.Bool.{le-leb}
-use Rattle.std.specs.List.{AllZip}
+use Rattle.std.specs.List.{AllZip, slice_get}
 use Rattle.sstable_blocks.specs.Prelude.{HandleParts, Entry, plain, index_check, IndexVerdict, entries, Handle, handles, IsIndexBlock, IndexPasses, IsOrdered, items_in, trailer_in}
 use Rattle.sstable_blocks.specs.Results.{Error, BadHandle}
 use Rattle.sstable_blocks.specs.BlockTypes as types
 use Rattle.sst_parts.specs.Parts.{IsParted, IsStoredPart, tops_at}
 use Rattle.sstable_blocks.specs.RunPlaces.{part_in}
 use Rattle.sst_parts.specs.PartScans.{bytes_reads, kept_reads, part_reads, parts_read}
+use Rattle.sst_parts.specs.RefScans.{IsScannedPart}
 use Rattle.sst_parts.proofs.Writing.Joins.{joined-map, zip-map}
 use Rattle.sst_parts.proofs.Reading.PartReads.{tops_read}
 use Rattle.sstable_blocks.specs.Blocks.{joined}
@@ -83,3 +84,17 @@ module _ (c : Hashes) (sums : (xs : List ℕ) → c.hash128 xs < 2 ^ 128)
           ap (λ ks. parts_read c bytes r (handles_within r ks)) same
           ∙ reads_within r (part_reads c bytes r) (parts_read c bytes r) refl (λ k ks. refl) (map joined parts) d.tops (zip-map joined IsPartRead parts d.tops (each_part parts d.tops d.stored)) (subst (IsOrdered entries) (sym (joined-map parts)) d.ordered)
           ∙ ap (read_all r) (joined-map parts)
+
+      part_at : (parts : List (List (List Entry))) (hs : List Handle) (i : ℕ) (h : Handle) → AllZip (IsStoredPart c bytes) parts hs → slice_get hs i ≡ Some h → IsScannedPart c bytes r h
+      part_at [] [] i h stored at = cc
+      part_at [] (k ∷ ks) i h stored at = absurd stored
+      part_at (b ∷ bs) [] i h stored at = absurd stored
+      part_at (b ∷ bs) (k ∷ ks) zero h stored at =
+          let same : k ≡ h = cc in
+          subst (IsScannedPart c bytes r) same (record { blocks = b; stored = stored.0; read = (one_part b k stored.0).read })
+      part_at (b ∷ bs) (k ∷ ks) (suc i) h stored at = part_at bs ks i h stored.1 at
+
+      pub part_scanned : (parts : List (List (List Entry))) (top : HandleParts) (tops : List Handle) (i : ℕ) (h : Handle) → IsParted c parts bytes top → tops_at c bytes top ≡ Ok tops → slice_get tops i ≡ Some h → IsScannedPart c bytes r h
+      part_scanned parts top tops i h d at here =
+          let same = same_tops tops d.tops (sym at ∙ tops_read c sums index_verdict index_read bytes d.tops top d.index) in
+          part_at parts d.tops i h d.stored (ap (λ (ks : List Handle). slice_get ks i) (sym same) ∙ here)

@@ -21,9 +21,9 @@ pub tops_same : {S : Type 0} (a b : PartedParts S) → a ≡ record b { source =
 tops_same {S} a b e = ap (λ (t : PartedParts S). t.tops) e
 
 -- the parts that can have a key in a range
-pub parts_within : (r : KeyRange) (hs : List Handle) (lo hi last : ℕ) → lo ≡ first_block r hs → last ≡ blocks_up_to r hs → hi ≡ min (length hs) (last + 1) → between hs lo hi ≡ handles_within r hs
+pub handles_between : (r : KeyRange) (hs : List Handle) (lo hi last : ℕ) → lo ≡ first_block r hs → last ≡ blocks_up_to r hs → hi ≡ min (length hs) (last + 1) → between hs lo hi ≡ handles_within r hs
 unfolding handles_within
-parts_within r hs lo hi last first up at =
+handles_between r hs lo hi last first up at =
     ap (λ n. between hs n hi) first ∙ ap (λ n. between hs (first_block r hs) n) (at ∙ ap (λ n. min (length hs) (n + 1)) up)
 
 module _ (c : Hashes) (all : List ℕ) (r : KeyRange) where
@@ -33,7 +33,7 @@ module _ (c : Hashes) (all : List ℕ) (r : KeyRange) where
 
   module _ (hs : List Handle) where
     -- the next part, seen from an end
-    abbrev NextPart : Bool → ℕ → ℕ → ℕ → ℕ → ℕ → Type 0
+    abbrev pub NextPart : Bool → ℕ → ℕ → ℕ → ℕ → ℕ → Type 0
     NextPart back lo hi i lo' hi' = (h : Handle) × (slice_get hs i ≡ Some h) × (seen_from back (parts_read c all r (between hs lo hi)) ≡ seen_from back (part_reads c all r h) ++ seen_from back (parts_read c all r (between hs lo' hi')))
 
     next_at : (back : Bool) (lo hi : ℕ) → lo < hi → hi ≤ length hs → NextPart back lo hi (index_at back lo hi) (lo_at back lo) (hi_at back hi)
@@ -44,7 +44,7 @@ module _ (c : Hashes) (all : List ℕ) (r : KeyRange) where
         let k = last_between hs lo hi less inside in
         (k.0, k.1, ap (λ ks. reverse (parts_read c all r ks)) k.2 ∙ ap reverse (parts_read-push (between hs lo (hi - 1)) k.0) ∙ reverse-append (parts_read c all r (between hs lo (hi - 1))) (part_reads c all r k.0))
 
-    next_part : (back : Bool) (lo hi i lo' hi' : ℕ) → lo < hi → hi ≤ length hs → i ≡ index_at back lo hi → lo' ≡ lo_at back lo → hi' ≡ hi_at back hi → NextPart back lo hi i lo' hi'
+    pub next_part : (back : Bool) (lo hi i lo' hi' : ℕ) → lo < hi → hi ≤ length hs → i ≡ index_at back lo hi → lo' ≡ lo_at back lo → hi' ≡ hi_at back hi → NextPart back lo hi i lo' hi'
     next_part back lo hi i lo' hi' less inside at low high =
         subst (λ n. NextPart back lo hi n lo' hi') (sym at) (subst (λ n. NextPart back lo hi (index_at back lo hi) n hi') (sym low) (subst (λ n. NextPart back lo hi (index_at back lo hi) (lo_at back lo) n) (sym high) (next_at back lo hi less inside)))
 

@@ -21,7 +21,7 @@ use Rattle.sstable_blocks.specs.RunReading.{Hashes}
 use Rattle.sstable_blocks.specs.Scans.{KeyRange, Read, FailsFirst, FailsLast, GivesFirst, GivesLast, block_within, within, between, blocks_read, entries_read, entries_among, entries_within, reads_among, reads_of}
 use Rattle.sstable_blocks.specs.Sources.{FailsAs}
 use Rattle.sstable_blocks.specs.BetweenLaws.{first_between, none_between}
-use Rattle.sstable_blocks.proofs.Scans.RunScans.{entries_again}
+use Rattle.sstable_blocks.specs.RangeReadLaws.{entries_again}
 
 -- lists in order, of which one is near and one is far
 abbrev pub in_list_order : {X : Type 0} → Bool → List X → List X → List X → List X

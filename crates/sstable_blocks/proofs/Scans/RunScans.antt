@@ -16,6 +16,7 @@ use Rattle.sst_block_core.specs.Stages.{items_in}
 use Rattle.sst_block_core.specs.Handles.{Handle}
 use Rattle.sstable_blocks.specs.Blocks.{joined}
 use Rattle.sstable_blocks.specs.Opened.{range_of, payload_in, index_in}
+use Rattle.sstable_blocks.specs.RangeReadLaws.{entries_again}
 use Rattle.sstable_blocks.specs.RunReading.{Hashes}
 use Rattle.sstable_blocks.specs.Sound.{RunParts}
 use Rattle.sstable_blocks.specs.Tallies.{Adds, CountsFirst, CountsLast, Tally, least_taken, most_taken}
@@ -26,11 +27,6 @@ module _ {X : Type 0} (P : X → Type 0) where
   some_taken zero xs a = tt
   some_taken (suc n) [] a = tt
   some_taken (suc n) (x ∷ xs) a = (a.0, some_taken n xs a.1)
-
--- the entries of reads
-pub entries_again : (xs : List Entry) → entries_read (map Ok xs) ≡ xs
-entries_again [] = refl
-entries_again (x ∷ xs) = ap (λ ys. x ∷ ys) (entries_again xs)
 
 module _ (bytes : List ℕ) (r : KeyRange) where
   -- the entries of the block of a handle that are in the range

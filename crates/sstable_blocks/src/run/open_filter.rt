@@ -14,7 +14,7 @@ use std::marker::Model;
 #[derive(Drop)]
 pub(crate) struct OpenFilter<'a> {
     bytes: &'a [u8],
-    handle: &'a Option<BlockHandle>,
+    handle: Option<BlockHandle>,
     reader: Option<StandardBloomFilterReader<'a>>,
 }
 
@@ -23,9 +23,9 @@ impl<'a> Model for OpenFilter<'a> {
 
     ghost Value = { FilterPlace };
 
-    ghost view = { λ f. record { bytes = f.bytes.now; handle = f.handle.now } };
+    ghost view = { λ f. record { bytes = f.bytes.now; handle = f.handle } };
 
-    ghost invariant = { λ f. IsFilterIn f.bytes.now f.handle.now f.reader };
+    ghost invariant = { λ f. IsFilterIn f.bytes.now f.handle f.reader };
 }
 
 // The reader of a filter, if there is one that can be read.
@@ -47,13 +47,13 @@ fn reader_in<'a>(
 
 impl<'a> OpenFilter<'a> {
     /// Reads the filter in the range of a handle, if there is one.
-    pub(crate) fn new(bytes: &'a [u8], handle: &'a Option<BlockHandle>) -> OpenFilter<'a>
+    pub(crate) fn new(bytes: &'a [u8], handle: &Option<BlockHandle>) -> OpenFilter<'a>
         requires { IfSome handle.now (IsFrameRange bytes.now) }
         ensures { result ≡ record { bytes = bytes.now; handle = handle.now } }
     {
         OpenFilter {
             bytes,
-            handle,
+            handle: *handle,
             reader: reader_in(bytes, handle),
         }
     }

@@ -32,13 +32,14 @@ use std::marker::{Model, PhantomData};
 
 /// A sound run over bytes that it borrows, such as a mapped file or the pages of a cache. It is
 /// read without checks and checksums, nothing is copied, no memory is taken, and no read fails.
-/// What it gives borrows these bytes, and may be kept as long as they are lent.
+/// What it gives borrows these bytes, and may be kept as long as they are lent. The handles are
+/// kept.
 ///
 /// Clauses see its bytes and its handles, which are a sound run.
 #[derive(Drop)]
 pub struct RunRef<'a, H: BlockHash> {
     bytes: &'a [u8],
-    handles: &'a RunHandles,
+    handles: RunHandles,
     filter: OpenFilter<'a>,
     index: IndexSearch<'a>,
     hash: PhantomData<H>,
@@ -53,18 +54,18 @@ impl<'a, H: BlockHash> Model for RunRef<'a, H> {
 
     ghost Value = { RunParts };
 
-    ghost view = { λ r. record { bytes = r.bytes.now; handles = r.handles.now } };
+    ghost view = { λ r. record { bytes = r.bytes.now; handles = r.handles } };
 
     ghost invariant = { λ r. ((blocks : List (List Entry))
-        × IsSound (hashes H.hash64 H.hash128) blocks r.bytes.now r.handles.now)
-        × IsIndexIn r.bytes.now r.handles.now.index r.index.items r.index.interval
-        × (r.filter ≡ record { bytes = r.bytes.now; handle = r.handles.now.filter }) };
+        × IsSound (hashes H.hash64 H.hash128) blocks r.bytes.now r.handles)
+        × IsIndexIn r.bytes.now r.handles.index r.index.items r.index.interval
+        × (r.filter ≡ record { bytes = r.bytes.now; handle = r.handles.filter }) };
 }
 
 impl<'a, H: BlockHash> RunRef<'a, H> {
     /// Reads bytes and handles that are a sound run, as `write_run` writes one of any configuration
     /// and [`super::check`] accepts it. Nothing of it is tested, and no checksum is computed.
-    pub fn new(bytes: &'a [u8], handles: &'a RunHandles) -> RunRef<'a, H>
+    pub fn new(bytes: &'a [u8], handles: &RunHandles) -> RunRef<'a, H>
         requires { IsSoundRun (hashes H.hash64 H.hash128) bytes.now handles.now }
         ensures { result ≡ record { bytes = bytes.now; handles = handles.now } }
     {
@@ -82,7 +83,7 @@ impl<'a, H: BlockHash> RunRef<'a, H> {
     pub fn check(
         alloc: Global,
         bytes: &'a [u8],
-        handles: &'a RunHandles,
+        handles: &RunHandles,
     ) -> Result<(RunRef<'a, H>, RunSummary)>
         ensures run { IfOk result (λ r. r.0 ≡ record { bytes = bytes.now; handles = handles.now }) }
         ensures checked { IfOk result
@@ -107,7 +108,7 @@ impl<'a, H: BlockHash> RunRef<'a, H> {
     // The run with an index that was opened, and may have a table of its heads.
     pub(crate) fn with_index(
         bytes: &'a [u8],
-        handles: &'a RunHandles,
+        handles: &RunHandles,
         index: IndexSearch<'a>,
     ) -> RunRef<'a, H>
         requires sound { IsSoundRun (hashes H.hash64 H.hash128) bytes.now handles.now }
@@ -117,7 +118,7 @@ impl<'a, H: BlockHash> RunRef<'a, H> {
         sound_opens();
         RunRef {
             bytes,
-            handles,
+            handles: *handles,
             filter: OpenFilter::new(bytes, &handles.filter),
             index,
             hash: PhantomData,
@@ -150,7 +151,7 @@ impl<'a, H: BlockHash> RunRef<'a, H> {
         if !self.filter.allows(H::hash64(needle)) {
             return None;
         }
-        item_by_index::<H>(self.bytes, self.handles, &self.index, needle, seqno, steps)
+        item_by_index::<H>(self.bytes, &self.handles, &self.index, needle, seqno, steps)
     }
 
     /// Finds the first entry with this key whose sequence number is strictly below `seqno`. Takes
@@ -178,7 +179,7 @@ impl<'a, H: BlockHash> RunRef<'a, H> {
     pub(crate) fn again(&self) -> RunRef<'a, H>
         ensures { result ≡ self.now }
     {
-        RunRef::with_index(self.bytes, self.handles, self.index.again())
+        RunRef::with_index(self.bytes, &self.handles, self.index.again())
     }
 
     // The index.

@@ -1,7 +1,7 @@
 use Rattle.std.proofs.Common.{ap}
 use Rattle.std.specs.Range.Bound.{bound_map}
 use Rattle.sstable_blocks.specs.BoundLaws.{before_included, before_excluded, none_before}
-use Rattle.sst_parts.proofs.scan.parts_before.Goals as goal
+use Rattle.sst_parts.proofs.part_range.parts_before.Goals as goal
 
 pub returns-in-Included : goal.returns-in-Included
 returns-in-Included c = before_included _ _ _ _ _ _ c.position.ensures.value c.below.ensures.needle c.below.ensures.from (ap (bound_map (λ k. k.now)) c.in-Included.is)

@@ -1,7 +1,7 @@
 use Rattle.std.proofs.Common.{ap}
 use Rattle.std.specs.Range.Bound.{bound_map}
 use Rattle.sstable_blocks.specs.BoundLaws.{up_to_included, up_to_excluded, all_up_to}
-use Rattle.sst_parts.proofs.scan.parts_up_to.Goals as goal
+use Rattle.sst_parts.proofs.part_range.parts_up_to.Goals as goal
 
 pub returns-in-Included : goal.returns-in-Included
 returns-in-Included c = up_to_included _ _ _ _ _ _ c.position.ensures.value c.up_to.ensures.needle c.up_to.ensures.from (ap (bound_map (λ k. k.now)) c.in-Included.is)

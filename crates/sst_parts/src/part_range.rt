@@ -1,0 +1,72 @@
+//! The parts of an index that can have a key in a range.
+ghost use Rattle.std.specs.Prelude.{◌≡◌, ◌<◌, ◌≤◌, length};
+ghost use Rattle.std.specs.List.{count_by};
+ghost use Rattle.std.specs.Range.Bound.{bound_map};
+ghost use Rattle.sstable_blocks.specs.Ends.{hi_at, index_at, lo_at};
+ghost use Rattle.sstable_blocks.specs.Scans.{between, handles_within, is_before, is_up_to};
+ghost use Rattle.sstable_blocks.specs.Scans.{range_by};
+
+use sstable_blocks::Steps;
+use sstable_blocks::run::ends::Between;
+use sstable_blocks::table::block::bound::Bound as SeekBound;
+use sstable_blocks::table::index_block::IndexBlockRef;
+use std::ops::Bound;
+
+// How many parts end before the start of a range.
+fn parts_before(index: &IndexBlockRef<'_>, from: &Bound<&[u8]>) -> usize
+    ensures { result
+        ≡ count_by (λ h. is_before (bound_map (λ k. k.now) from.now) h.end_key) index.now.items }
+{
+    let mut steps = Steps::new();
+    match *from {
+        Bound::Included(start) => index.position(&SeekBound::below(start), &mut steps),
+        Bound::Excluded(start) => index.position(&SeekBound::up_to(start), &mut steps),
+        Bound::Unbounded => 0,
+    }
+}
+
+// How many parts end up to the end of a range.
+fn parts_up_to(index: &IndexBlockRef<'_>, to: &Bound<&[u8]>) -> usize
+    ensures { result
+        ≡ count_by (λ h. is_up_to (bound_map (λ k. k.now) to.now) h.end_key) index.now.items }
+{
+    let mut steps = Steps::new();
+    match *to {
+        Bound::Included(end) => index.position(&SeekBound::up_to(end), &mut steps),
+        Bound::Excluded(end) => index.position(&SeekBound::below(end), &mut steps),
+        Bound::Unbounded => index.len(),
+    }
+}
+
+// The parts that can have a key between two bounds, by the index of the parts alone.
+pub(crate) fn parts_within(
+    index: &IndexBlockRef<'_>,
+    from: &Bound<&[u8]>,
+    to: &Bound<&[u8]>,
+) -> Between
+    ensures handles { between index.now.items result.lo result.hi
+        ≡ handles_within (range_by (λ k. k.now) from.now to.now) index.now.items }
+    ensures inside { result.hi ≤ length index.now.items }
+{
+    let lo = parts_before(index, from);
+    let len = index.len();
+    let last = parts_up_to(index, to);
+    let hi = if last < len { last + 1 } else { len };
+    Between { lo, hi }
+}
+
+// Takes the index at an end.
+pub(crate) fn take_index(back: bool, between: &mut Between) -> usize
+    requires { between.old.lo < between.old.hi }
+    ensures index { result ≡ index_at back between.old.lo between.old.hi }
+    ensures rest { (between.new.lo ≡ lo_at back between.old.lo)
+        × (between.new.hi ≡ hi_at back between.old.hi) }
+{
+    if back {
+        between.hi -= 1;
+        between.hi
+    } else {
+        between.lo += 1;
+        between.lo - 1
+    }
+}
