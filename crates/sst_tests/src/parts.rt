@@ -1,30 +1,25 @@
 // Parted tables, written and read.
 use crate::Tested;
+use crate::runs::ends::Ends;
+use crate::runs::lists::push;
 use crate::runs::written::write_in_blocks;
 use sst_base::{
     Block, BlockHandle, BlockOffset, BlockType, ByteSum, Error, HashRatio, InternalValue, Slice,
     Steps, ValueType,
 };
 use sst_block_core::{IndexBlock, KeyedBlockHandle};
-use sst_parts::{PartSizes, PartWriter, PartedRef, PartedScan, PartedSummary, PartedTable};
-use sstable_blocks::run::{FrameSource, RunHandles, encode_footer};
+use sst_parts::{PartSizes, PartWriter, PartedRef, PartedSummary, PartedTable};
+use sstable_blocks::run::{RunHandles, encode_footer};
 use sstable_blocks::{MemorySource, RunConfig};
 use std::alloc::Global;
 use std::ops::Bound;
+use std::process::Abort;
 
 // The versions of a key: sequence numbers 9 down to 1.
 fn versions(list: &mut Vec<InternalValue>, key: u8) -> sst_base::Result<()> {
-    let alloc = *list.allocator();
     for i in 0u64..9 {
-        let text = [b'k', key];
         let value = [key, (9 - i) as u8];
-        let entry = InternalValue::from_components(
-            Slice::new(alloc, &text)?,
-            Slice::new(alloc, &value)?,
-            9 - i,
-            ValueType::Value,
-        );
-        list.push(entry)?;
+        push(list, &[b'k', key], &value, 9 - i, ValueType::Value)?;
     }
     Ok(())
 }
@@ -83,12 +78,7 @@ fn written(alloc: Global, len: usize, sizes: PartSizes, bits: u32) -> sst_base::
 }
 
 // The sequence number of what a read of a key gives, 0 where it gives nothing.
-fn got(
-    alloc: Global,
-    table: &mut PartedTable<ByteSum, MemorySource>,
-    key: u8,
-    seqno: u64,
-) -> sst_base::Result<u64> {
+fn got(alloc: Global, table: &mut InMemory, key: u8, seqno: u64) -> sst_base::Result<u64> {
     let found = table.get(alloc, &[b'k', key], seqno, &mut Steps::new())?;
     Ok(found.map_or(0, |entry| entry.key().seqno()))
 }
@@ -103,11 +93,7 @@ fn newest(key: u8, seqno: u64) -> u64 {
 }
 
 // How many reads of a key give the wrong version.
-fn wrong_of_key(
-    alloc: Global,
-    table: &mut PartedTable<ByteSum, MemorySource>,
-    key: u8,
-) -> sst_base::Result<u64> {
+fn wrong_of_key(alloc: Global, table: &mut InMemory, key: u8) -> sst_base::Result<u64> {
     let mut wrong = 0u64;
     for seqno in 0u64..12 {
         if got(alloc, table, key, seqno)? != newest(key, seqno) {
@@ -129,20 +115,29 @@ fn wrong_finds_of_key(table: &PartedRef<'_, ByteSum>, key: u8) -> u64 {
     wrong
 }
 
-// How many finds in a parted table of six keys over borrowed bytes give the wrong version, in parts
-// of so many blocks; an error where it has not so many entries.
+// How many finds in a parted table of six keys give the wrong version.
+fn wrong_finds_of(table: &PartedRef<'_, ByteSum>) -> u64 {
+    let mut wrong = 0u64;
+    for key in 0u8..14 {
+        wrong = wrong.saturating_add(wrong_finds_of_key(table, key));
+    }
+    wrong
+}
+
+// The same over borrowed bytes; an error where the table has not so many entries.
+fn wrong_finds_in(alloc: Global, bytes: &Slice, top: &BlockHandle) -> sst_base::Result<u64> {
+    match PartedRef::<ByteSum>::check(alloc, bytes, top) {
+        Ok((table, summary)) if summary.whole.entries == 54 => Ok(wrong_finds_of(&table)),
+        Ok(_) => Err(Error::BadEntry),
+        Err(error) => Err(error),
+    }
+}
+
+// The same of a table in parts of so many blocks.
 fn wrong_finds(alloc: Global, blocks: usize) -> sst_base::Result<u64> {
     let (top, bytes) = written_with_top(alloc, 4, PartSizes { blocks, bytes: 0 }, 10)?;
     let bytes = Slice::from_vec(bytes)?;
-    let (table, summary) = PartedRef::<ByteSum>::check(alloc, &bytes, &top)?;
-    if summary.whole.entries != 54 {
-        return Err(Error::BadEntry);
-    }
-    let mut wrong = 0u64;
-    for key in 0u8..14 {
-        wrong = wrong.saturating_add(wrong_finds_of_key(&table, key));
-    }
-    Ok(wrong)
+    wrong_finds_in(alloc, &bytes, &top)
 }
 
 #[test]
@@ -152,15 +147,30 @@ fn versions_are_found_in_borrowed_bytes(rt: HostRuntime) {
     }
 }
 
-// How many reads of a parted table of six keys give the wrong version.
-fn wrong_reads(alloc: Global, bytes: Vec<u8>) -> sst_base::Result<u64> {
+// A parted table in memory.
+type InMemory = PartedTable<ByteSum, MemorySource>;
+
+// Opens the bytes of a parted table.
+fn open_bytes(alloc: Global, bytes: Vec<u8>) -> sst_base::Result<InMemory> {
     let source = MemorySource::new(Slice::from_vec(bytes)?);
-    let mut table = PartedTable::<ByteSum, MemorySource>::open_file(alloc, source)?;
+    Ok(InMemory::open_file(alloc, source)?)
+}
+
+// How many reads of a parted table of six keys give the wrong version.
+fn wrong_in(alloc: Global, table: &mut InMemory) -> sst_base::Result<u64> {
     let mut wrong = 0u64;
     for key in 0u8..14 {
-        wrong = wrong.saturating_add(wrong_of_key(alloc, &mut table, key)?);
+        wrong = wrong.saturating_add(wrong_of_key(alloc, table, key)?);
     }
     Ok(wrong)
+}
+
+// The same of a table that is opened.
+fn wrong_reads(alloc: Global, bytes: Vec<u8>) -> sst_base::Result<u64> {
+    match open_bytes(alloc, bytes) {
+        Ok(mut table) => wrong_in(alloc, &mut table),
+        Err(error) => Err(error),
+    }
 }
 
 // How many reads are wrong of a table of a row.
@@ -211,15 +221,15 @@ fn versions_across_parts_are_read(rt: HostRuntime) {
 type Place = (u8, u64);
 
 // The entry that a step of a scan gives, from the front or from the back.
-fn step<S: FrameSource>(
+fn step<I: Ends>(
     alloc: Global,
-    scan: &mut PartedScan<'_, ByteSum, S>,
+    scan: &mut I,
     forwards: bool,
 ) -> sst_base::Result<Option<InternalValue>> {
     if forwards {
-        scan.next_entry(alloc)
+        scan.first(alloc)
     } else {
-        scan.next_entry_back(alloc)
+        scan.last(alloc)
     }
 }
 
@@ -232,9 +242,9 @@ fn place_of(entry: &InternalValue) -> Place {
 
 // How many steps of a scan give no entry that is wanted at its place: from the front where a
 // pattern has a 1 for them, else from the back, as many as entries are wanted and one more.
-fn wrong_steps<S: FrameSource>(
+fn wrong_steps<I: Ends>(
     alloc: Global,
-    scan: &mut PartedScan<'_, ByteSum, S>,
+    scan: &mut I,
     wanted: &[Place],
     pattern: u64,
 ) -> sst_base::Result<u64> {
@@ -276,46 +286,33 @@ fn wanted(alloc: Global, first: u8, last: u8) -> sst_base::Result<Vec<Place>> {
 }
 
 // A parted table of six keys in memory.
-fn opened(
-    alloc: Global,
-    len: usize,
-    blocks: usize,
-) -> sst_base::Result<PartedTable<ByteSum, MemorySource>> {
+fn opened(alloc: Global, len: usize, blocks: usize) -> sst_base::Result<InMemory> {
     let bytes = written(alloc, len, PartSizes { blocks, bytes: 0 }, 10)?;
-    let source = MemorySource::new(Slice::from_vec(bytes)?);
-    Ok(PartedTable::open_file(alloc, source)?)
+    open_bytes(alloc, bytes)
 }
 
 // How many steps of a scan of the keys from one up to another are wrong.
-fn wrong_between(
+fn wrong_between<I: Ends + Drop>(
     alloc: Global,
-    scan: &mut PartedScan<'_, ByteSum, MemorySource>,
+    scan: I,
     first: u8,
     last: u8,
     pattern: u64,
 ) -> sst_base::Result<u64> {
+    let mut scan = scan;
     let wanted = wanted(alloc, first, last)?;
-    wrong_steps(alloc, scan, &wanted, pattern)
+    wrong_steps(alloc, &mut scan, &wanted, pattern)
 }
 
 // How many steps of a scan of all keys are wrong.
-fn wrong_in_all(
-    alloc: Global,
-    table: PartedTable<ByteSum, MemorySource>,
-    pattern: u64,
-) -> sst_base::Result<u64> {
-    let mut scan = table.scan();
-    wrong_between(alloc, &mut scan, 0, 12, pattern)
+fn wrong_in_all(alloc: Global, table: InMemory, pattern: u64) -> sst_base::Result<u64> {
+    wrong_between(alloc, table.scan(), 0, 12, pattern)
 }
 
 // How many steps of a scan of the keys behind the second one, up to the fifth, are wrong.
-fn wrong_in_range(
-    alloc: Global,
-    table: PartedTable<ByteSum, MemorySource>,
-    pattern: u64,
-) -> sst_base::Result<u64> {
-    let mut scan = table.scan_range(Bound::Excluded(b"k\x03"), Bound::Included(b"k\x09"));
-    wrong_between(alloc, &mut scan, 4, 9, pattern)
+fn wrong_in_range(alloc: Global, table: InMemory, pattern: u64) -> sst_base::Result<u64> {
+    let scan = table.scan_range(Bound::Excluded(b"k\x03"), Bound::Included(b"k\x09"));
+    wrong_between(alloc, scan, 4, 9, pattern)
 }
 
 // How many steps of a scan of all keys, or of some, are wrong.
@@ -364,54 +361,73 @@ fn handle_from(file: &[u8], offset: usize) -> sst_base::Result<BlockHandle> {
     }
 }
 
+// The run of a part.
+fn run_of(alloc: Global, key: u8) -> sst_base::Result<(RunHandles, Vec<u8>)> {
+    let mut list = Vec::new(alloc);
+    versions(&mut list, key)?;
+    let config = RunConfig::new(2, HashRatio { num: 1, den: 1 }, 10);
+    write_in_blocks(alloc, Vec::new(alloc), list.as_slice(), 4, config)
+}
+
+// Adds the run of a part, and its footer, to a file.
+fn add_run(file: &mut Vec<u8>, key: u8) -> sst_base::Result<()> {
+    let (places, run) = run_of(*file.allocator(), key)?;
+    file.extend_from_slice(run.as_slice())?;
+    file.extend_from_slice(&encode_footer(&places))?;
+    Ok(())
+}
+
 // Adds a part to a file. Returns its handle in the index.
 fn add_part(file: &mut Vec<u8>, part: &Part) -> sst_base::Result<KeyedBlockHandle> {
     let alloc = *file.allocator();
     let (key, end, seqno, between) = *part;
-    let mut list = Vec::new(alloc);
-    versions(&mut list, key)?;
-    let config = RunConfig::new(2, HashRatio { num: 1, den: 1 }, 10);
-    let (places, run) = write_in_blocks(alloc, Vec::new(alloc), list.as_slice(), 4, config)?;
     file.resize(file.len().saturating_add(between), 0)?;
     let offset = file.len();
-    file.extend_from_slice(run.as_slice())?;
-    file.extend_from_slice(&encode_footer(&places))?;
+    add_run(file, key)?;
     let handle = handle_from(file.as_slice(), offset)?;
     let end_key = Slice::new(alloc, &[b'k', end])?;
     Ok(KeyedBlockHandle::new(end_key, seqno, handle))
 }
 
+// Adds the payload of an index to a file. Returns the handle of its frame.
+fn add_index(file: &mut Vec<u8>, payload: &[u8]) -> sst_base::Result<BlockHandle> {
+    let offset = file.len();
+    Block::write_into::<ByteSum, Vec<u8>>(file, payload, BlockType::Meta)?;
+    handle_from(file.as_slice(), offset)
+}
+
 // Ends a file with the index of its parts and a footer.
 fn end_file(file: &mut Vec<u8>, handles: &[KeyedBlockHandle]) -> sst_base::Result<()> {
-    let alloc = *file.allocator();
     if handles.is_empty() || !IndexBlock::is_ordered(handles) || !IndexBlock::ends_fit(handles) {
         return Err(Error::OutOfOrder);
     }
-    let payload = IndexBlock::encode_into_vec(alloc, handles)?;
-    let offset = file.len();
-    Block::write_into::<ByteSum, Vec<u8>>(file, payload.as_slice(), BlockType::Meta)?;
-    let top = handle_from(file.as_slice(), offset)?;
+    let payload = IndexBlock::encode_into_vec(*file.allocator(), handles)?;
+    let index = add_index(file, payload.as_slice())?;
     file.extend_from_slice(&encode_footer(&RunHandles {
-        index: top,
+        index,
         filter: None,
     }))?;
     Ok(())
 }
 
+// Adds two parts to a file, and ends it.
+fn add_parts(file: &mut Vec<u8>, first: &Part, second: &Part) -> sst_base::Result<()> {
+    let first = add_part(file, first)?;
+    let second = add_part(file, second)?;
+    let handles = vec![in *file.allocator(); first, second]?;
+    end_file(file, handles.as_slice())
+}
+
 // A file of two parts.
 fn file_of(alloc: Global, first: &Part, second: &Part) -> sst_base::Result<Vec<u8>> {
     let mut file = Vec::new(alloc);
-    let mut handles = Vec::new(alloc);
-    handles.push(add_part(&mut file, first)?)?;
-    handles.push(add_part(&mut file, second)?)?;
-    end_file(&mut file, handles.as_slice())?;
+    add_parts(&mut file, first, second)?;
     Ok(file)
 }
 
 // What a check of a file says.
 fn verified(alloc: Global, file: Vec<u8>) -> sst_base::Result<PartedSummary> {
-    let source = MemorySource::new(Slice::from_vec(file)?);
-    let mut table = PartedTable::<ByteSum, MemorySource>::open_file(alloc, source)?;
+    let mut table = open_bytes(alloc, file)?;
     table.verify(alloc)
 }
 
@@ -445,10 +461,8 @@ fn parted_tables_alone_are_accepted(rt: HostRuntime) {
     }
 }
 
-#[test]
-fn summary_is_that_of_all_parts(rt: HostRuntime) -> Tested {
-    let file = file_of(rt.alloc(), &(1, 1, 1, 0), &(3, 3, 1, 0))?;
-    let summary = verified(rt.alloc(), file)?;
+// Checks what a check says of two parts.
+fn check_summary(rt: &impl Abort, summary: &PartedSummary) {
     let whole = &summary.whole;
     assert_eq!(rt; (summary.parts, whole.blocks, whole.entries), (2, 6, 18));
     assert_eq!(rt;
@@ -460,6 +474,13 @@ fn summary_is_that_of_all_parts(rt: HostRuntime) -> Tested {
         (b"k\x03".as_slice(), 1)
     );
     assert_eq!(rt; (whole.least_seqno, whole.greatest_seqno), (1, 9));
+}
+
+#[test]
+fn summary_is_that_of_all_parts(rt: HostRuntime) -> Tested {
+    let file = file_of(rt.alloc(), &(1, 1, 1, 0), &(3, 3, 1, 0))?;
+    let summary = verified(rt.alloc(), file)?;
+    check_summary(&rt, &summary);
     Ok(())
 }
 
