@@ -13,7 +13,6 @@ use sstable_blocks::run::{RunHandles, encode_footer};
 use sstable_blocks::{MemorySource, RunConfig};
 use std::alloc::Global;
 use std::ops::Bound;
-use std::process::Abort;
 
 // The versions of a key: sequence numbers 9 down to 1.
 fn versions(list: &mut Vec<InternalValue>, key: u8) -> sst_base::Result<()> {
@@ -115,29 +114,20 @@ fn wrong_finds_of_key(table: &PartedRef<'_, ByteSum>, key: u8) -> u64 {
     wrong
 }
 
-// How many finds in a parted table of six keys give the wrong version.
-fn wrong_finds_of(table: &PartedRef<'_, ByteSum>) -> u64 {
-    let mut wrong = 0u64;
-    for key in 0u8..14 {
-        wrong = wrong.saturating_add(wrong_finds_of_key(table, key));
-    }
-    wrong
-}
-
-// The same over borrowed bytes; an error where the table has not so many entries.
-fn wrong_finds_in(alloc: Global, bytes: &Slice, top: &BlockHandle) -> sst_base::Result<u64> {
-    match PartedRef::<ByteSum>::check(alloc, bytes, top) {
-        Ok((table, summary)) if summary.whole.entries == 54 => Ok(wrong_finds_of(&table)),
-        Ok(_) => Err(Error::BadEntry),
-        Err(error) => Err(error),
-    }
-}
-
-// The same of a table in parts of so many blocks.
+// How many finds in a parted table of six keys over borrowed bytes give the wrong version, in parts
+// of so many blocks; an error where it has not so many entries.
 fn wrong_finds(alloc: Global, blocks: usize) -> sst_base::Result<u64> {
     let (top, bytes) = written_with_top(alloc, 4, PartSizes { blocks, bytes: 0 }, 10)?;
     let bytes = Slice::from_vec(bytes)?;
-    wrong_finds_in(alloc, &bytes, &top)
+    let (table, summary) = PartedRef::<ByteSum>::check(alloc, &bytes, &top)?;
+    if summary.whole.entries != 54 {
+        return Err(Error::BadEntry);
+    }
+    let mut wrong = 0u64;
+    for key in 0u8..14 {
+        wrong = wrong.saturating_add(wrong_finds_of_key(&table, key));
+    }
+    Ok(wrong)
 }
 
 #[test]
@@ -361,67 +351,47 @@ fn handle_from(file: &[u8], offset: usize) -> sst_base::Result<BlockHandle> {
     }
 }
 
-// The run of a part.
-fn run_of(alloc: Global, key: u8) -> sst_base::Result<(RunHandles, Vec<u8>)> {
-    let mut list = Vec::new(alloc);
-    versions(&mut list, key)?;
-    let config = RunConfig::new(2, HashRatio { num: 1, den: 1 }, 10);
-    write_in_blocks(alloc, Vec::new(alloc), list.as_slice(), 4, config)
-}
-
-// Adds the run of a part, and its footer, to a file.
-fn add_run(file: &mut Vec<u8>, key: u8) -> sst_base::Result<()> {
-    let (places, run) = run_of(*file.allocator(), key)?;
-    file.extend_from_slice(run.as_slice())?;
-    file.extend_from_slice(&encode_footer(&places))?;
-    Ok(())
-}
-
 // Adds a part to a file. Returns its handle in the index.
 fn add_part(file: &mut Vec<u8>, part: &Part) -> sst_base::Result<KeyedBlockHandle> {
     let alloc = *file.allocator();
     let (key, end, seqno, between) = *part;
+    let mut list = Vec::new(alloc);
+    versions(&mut list, key)?;
+    let config = RunConfig::new(2, HashRatio { num: 1, den: 1 }, 10);
+    let (places, run) = write_in_blocks(alloc, Vec::new(alloc), list.as_slice(), 4, config)?;
     file.resize(file.len().saturating_add(between), 0)?;
     let offset = file.len();
-    add_run(file, key)?;
+    file.extend_from_slice(run.as_slice())?;
+    file.extend_from_slice(&encode_footer(&places))?;
     let handle = handle_from(file.as_slice(), offset)?;
     let end_key = Slice::new(alloc, &[b'k', end])?;
     Ok(KeyedBlockHandle::new(end_key, seqno, handle))
 }
 
-// Adds the payload of an index to a file. Returns the handle of its frame.
-fn add_index(file: &mut Vec<u8>, payload: &[u8]) -> sst_base::Result<BlockHandle> {
-    let offset = file.len();
-    Block::write_into::<ByteSum, Vec<u8>>(file, payload, BlockType::Meta)?;
-    handle_from(file.as_slice(), offset)
-}
-
 // Ends a file with the index of its parts and a footer.
 fn end_file(file: &mut Vec<u8>, handles: &[KeyedBlockHandle]) -> sst_base::Result<()> {
+    let alloc = *file.allocator();
     if handles.is_empty() || !IndexBlock::is_ordered(handles) || !IndexBlock::ends_fit(handles) {
         return Err(Error::OutOfOrder);
     }
-    let payload = IndexBlock::encode_into_vec(*file.allocator(), handles)?;
-    let index = add_index(file, payload.as_slice())?;
+    let payload = IndexBlock::encode_into_vec(alloc, handles)?;
+    let offset = file.len();
+    Block::write_into::<ByteSum, Vec<u8>>(file, payload.as_slice(), BlockType::Meta)?;
+    let top = handle_from(file.as_slice(), offset)?;
     file.extend_from_slice(&encode_footer(&RunHandles {
-        index,
+        index: top,
         filter: None,
     }))?;
     Ok(())
 }
 
-// Adds two parts to a file, and ends it.
-fn add_parts(file: &mut Vec<u8>, first: &Part, second: &Part) -> sst_base::Result<()> {
-    let first = add_part(file, first)?;
-    let second = add_part(file, second)?;
-    let handles = vec![in *file.allocator(); first, second]?;
-    end_file(file, handles.as_slice())
-}
-
 // A file of two parts.
 fn file_of(alloc: Global, first: &Part, second: &Part) -> sst_base::Result<Vec<u8>> {
     let mut file = Vec::new(alloc);
-    add_parts(&mut file, first, second)?;
+    let mut handles = Vec::new(alloc);
+    handles.push(add_part(&mut file, first)?)?;
+    handles.push(add_part(&mut file, second)?)?;
+    end_file(&mut file, handles.as_slice())?;
     Ok(file)
 }
 
@@ -461,8 +431,10 @@ fn parted_tables_alone_are_accepted(rt: HostRuntime) {
     }
 }
 
-// Checks what a check says of two parts.
-fn check_summary(rt: &impl Abort, summary: &PartedSummary) {
+#[test]
+fn summary_is_that_of_all_parts(rt: HostRuntime) -> Tested {
+    let file = file_of(rt.alloc(), &(1, 1, 1, 0), &(3, 3, 1, 0))?;
+    let summary = verified(rt.alloc(), file)?;
     let whole = &summary.whole;
     assert_eq!(rt; (summary.parts, whole.blocks, whole.entries), (2, 6, 18));
     assert_eq!(rt;
@@ -474,13 +446,6 @@ fn check_summary(rt: &impl Abort, summary: &PartedSummary) {
         (b"k\x03".as_slice(), 1)
     );
     assert_eq!(rt; (whole.least_seqno, whole.greatest_seqno), (1, 9));
-}
-
-#[test]
-fn summary_is_that_of_all_parts(rt: HostRuntime) -> Tested {
-    let file = file_of(rt.alloc(), &(1, 1, 1, 0), &(3, 3, 1, 0))?;
-    let summary = verified(rt.alloc(), file)?;
-    check_summary(&rt, &summary);
     Ok(())
 }
 

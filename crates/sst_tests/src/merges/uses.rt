@@ -68,17 +68,12 @@ fn all_entries_are_appended(rt: HostRuntime) -> Tested {
     check_appended(&rt, rt.alloc(), &block)
 }
 
-/// Checks that the older version is found.
-fn check_found(rt: &impl Abort, found: &Option<InternalValue>) {
-    match found {
+/// Checks that the older version is read from a block.
+fn check_older(rt: &impl Abort, alloc: Global, block: &DataBlock<Xxh3>) -> Tested {
+    match read(alloc, block, b"apple", 7)? {
         Some(found) => assert!(rt; found.value().eq_bytes(b"green")),
         None => assert!(rt; false, "no apple"),
     }
-}
-
-/// Checks that the older version is read from a block.
-fn check_older(rt: &impl Abort, alloc: Global, block: &DataBlock<Xxh3>) -> Tested {
-    check_found(rt, &read(alloc, block, b"apple", 7)?);
     Ok(())
 }
 
@@ -88,18 +83,16 @@ fn an_older_version_is_read(rt: HostRuntime) -> Tested {
     check_older(&rt, rt.alloc(), &block)
 }
 
-/// Checks that the older version is read from a list.
-fn check_older_in(rt: &impl Abort, alloc: Global, list: &[InternalValue]) -> Tested {
-    assert!(rt; !list.is_empty());
-    assert!(rt; DataBlock::<Xxh3>::is_ordered(list));
-    check_found(rt, &newest_below(alloc, list, b"apple", 7)?);
-    Ok(())
-}
-
 #[test]
 fn an_older_version_is_read_from_a_list(rt: HostRuntime) -> Tested {
     let list = three_entries(rt.alloc())?;
-    check_older_in(&rt, rt.alloc(), &list)
+    assert!(rt; !list.is_empty());
+    assert!(rt; DataBlock::<Xxh3>::is_ordered(&list));
+    match newest_below(rt.alloc(), &list, b"apple", 7)? {
+        Some(found) => assert!(rt; found.value().eq_bytes(b"green")),
+        None => assert!(rt; false, "no apple"),
+    }
+    Ok(())
 }
 
 /// Checks that an absent key is not read from a block.
