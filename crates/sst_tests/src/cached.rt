@@ -1,5 +1,5 @@
 // Tables that are read through a cache of blocks, against reads without one.
-ghost use Rattle.std.specs.Prelude.{OnOk};
+ghost use Rattle.std.specs.Prelude.{IfOk, OnOk};
 ghost use Rattle.sst_parts.specs.Caches.{IsAdded, StillAdded};
 
 use crate::Tested;
@@ -49,6 +49,22 @@ fn same(one: &Option<InternalValue>, other: &Option<InternalValue>) -> bool {
     }
 }
 
+// Whether a read through a cache differs from what is wanted.
+fn differs_from<H: BlockHash, S: FrameSource>(
+    alloc: Global,
+    cache: &mut BlockCache<H>,
+    cached: &mut CachedTable<H, S>,
+    key: &[u8],
+    seqno: u64,
+    want: &Option<InternalValue>,
+) -> Result<bool>
+    requires { IsAdded S.bytes cache.old cached.old }
+    ensures { OnOk result (StillAdded S.bytes cache.old cache.new cached.new) }
+{
+    let got = cached.get(cache, alloc, key, seqno, &mut Steps::new())?;
+    Ok(!same(&got, want))
+}
+
 // Whether a read through a cache differs from one without it.
 fn differs<H: BlockHash, S: FrameSource>(
     alloc: Global,
@@ -62,8 +78,7 @@ fn differs<H: BlockHash, S: FrameSource>(
     ensures { OnOk result (StillAdded S.bytes cache.old cache.new cached.new) }
 {
     let want = plain.get(alloc, key, seqno, &mut Steps::new())?;
-    let got = cached.get(cache, alloc, key, seqno, &mut Steps::new())?;
-    Ok(!same(&got, &want))
+    differs_from(alloc, cache, cached, key, seqno, &want)
 }
 
 // How many reads of a table through a cache differ from reads without it.
@@ -100,17 +115,31 @@ fn wrong_through<H: BlockHash, S: FrameSource + Drop>(
     }
 }
 
+// Opens a run in a source.
+fn opened<H: BlockHash, S: FrameSource + Drop>(
+    alloc: Global,
+    source: S,
+    handles: &RunHandles,
+) -> Result<Table<H, S>>
+    ensures { IfOk result (IsOpened (hashes H.hash64 H.hash128) S.bytes) }
+{
+    match Table::open(alloc, source, *handles) {
+        Ok(table) => Ok(table),
+        Err(failed) => Err(failed.error),
+    }
+}
+
 // The same of a run in memory.
 fn wrong_of(
     alloc: Global,
     cache: &mut BlockCache<ByteSum>,
-    run: Slice,
+    run: &Slice,
     handles: &RunHandles,
     plain: &mut Table<ByteSum, MemorySource>,
 ) -> Result<u64> {
-    match Table::open(alloc, MemorySource::new(run), *handles) {
+    match opened(alloc, MemorySource::new(run.clone()?), handles) {
         Ok(table) => wrong_through(alloc, cache, table, plain),
-        Err(failed) => Err(failed.error),
+        Err(error) => Err(error),
     }
 }
 
@@ -118,22 +147,31 @@ fn wrong_of(
 fn wrong_in(
     alloc: Global,
     cache: &mut BlockCache<ByteSum>,
-    run: Slice,
+    run: &Slice,
     handles: &RunHandles,
 ) -> Result<u64> {
-    let copy = run.clone()?;
-    match Table::open(alloc, MemorySource::new(copy), *handles) {
+    match opened(alloc, MemorySource::new(run.clone()?), handles) {
         Ok(mut plain) => wrong_of(alloc, cache, run, handles, &mut plain),
-        Err(failed) => Err(failed.error),
+        Err(error) => Err(error),
     }
 }
 
-// What a cache of so many bytes counts: wrong reads, hits, misses, and the bytes of its blocks.
-fn counts(alloc: Global, most: u64) -> Result<(u64, u64, u64, u64)> {
-    let mut cache = BlockCache::<ByteSum>::new(alloc, most)?;
-    let (handles, bytes) = run(alloc)?;
-    let wrong = wrong_in(alloc, &mut cache, bytes, &handles)?;
+// What a cache counts: wrong reads, hits, misses, and the bytes of its blocks.
+fn counts_in(
+    alloc: Global,
+    cache: &mut BlockCache<ByteSum>,
+    run: &Slice,
+    handles: &RunHandles,
+) -> Result<(u64, u64, u64, u64)> {
+    let wrong = wrong_in(alloc, cache, run, handles)?;
     Ok((wrong, cache.hits(), cache.misses(), cache.bytes()))
+}
+
+// The same of a cache of so many bytes.
+fn counts(alloc: Global, most: u64) -> Result<(u64, u64, u64, u64)> {
+    let (handles, bytes) = run(alloc)?;
+    let mut cache = BlockCache::<ByteSum>::new(alloc, most)?;
+    counts_in(alloc, &mut cache, &bytes, &handles)
 }
 
 // Of 105 reads 98 lead to a block: each of ten blocks is read once where all fit, at each read

@@ -1,32 +1,24 @@
 // Parted tables, written and read.
 use crate::Tested;
+use crate::runs::ends::Ends;
+use crate::runs::lists::push;
 use crate::runs::written::write_in_blocks;
 use sst_base::{
     Block, BlockHandle, BlockOffset, BlockType, ByteSum, Error, HashRatio, InternalValue, Slice,
     Steps, ValueType,
 };
 use sst_block_core::{EntryView, IndexBlock, KeyedBlockHandle};
-use sst_parts::{
-    PartSizes, PartWriter, PartedRef, PartedRefScan, PartedScan, PartedSummary, PartedTable,
-};
-use sstable_blocks::run::{FrameSource, RunHandles, encode_footer};
+use sst_parts::{PartSizes, PartWriter, PartedRef, PartedRefScan, PartedSummary, PartedTable};
+use sstable_blocks::run::{RunHandles, encode_footer};
 use sstable_blocks::{MemorySource, RunConfig};
 use std::alloc::Global;
 use std::ops::Bound;
 
 // The versions of a key: sequence numbers 9 down to 1.
 fn versions(list: &mut Vec<InternalValue>, key: u8) -> sst_base::Result<()> {
-    let alloc = *list.allocator();
     for i in 0u64..9 {
-        let text = [b'k', key];
         let value = [key, (9 - i) as u8];
-        let entry = InternalValue::from_components(
-            Slice::new(alloc, &text)?,
-            Slice::new(alloc, &value)?,
-            9 - i,
-            ValueType::Value,
-        );
-        list.push(entry)?;
+        push(list, &[b'k', key], &value, 9 - i, ValueType::Value)?;
     }
     Ok(())
 }
@@ -90,12 +82,7 @@ pub(crate) fn written(
 }
 
 // The sequence number of what a read of a key gives, 0 where it gives nothing.
-fn got(
-    alloc: Global,
-    table: &mut PartedTable<ByteSum, MemorySource>,
-    key: u8,
-    seqno: u64,
-) -> sst_base::Result<u64> {
+fn got(alloc: Global, table: &mut InMemory, key: u8, seqno: u64) -> sst_base::Result<u64> {
     let found = table.get(alloc, &[b'k', key], seqno, &mut Steps::new())?;
     Ok(found.map_or(0, |entry| entry.key().seqno()))
 }
@@ -110,11 +97,7 @@ pub(crate) fn newest(key: u8, seqno: u64) -> u64 {
 }
 
 // How many reads of a key give the wrong version.
-fn wrong_of_key(
-    alloc: Global,
-    table: &mut PartedTable<ByteSum, MemorySource>,
-    key: u8,
-) -> sst_base::Result<u64> {
+fn wrong_of_key(alloc: Global, table: &mut InMemory, key: u8) -> sst_base::Result<u64> {
     let mut wrong = 0u64;
     for seqno in 0u64..12 {
         if got(alloc, table, key, seqno)? != newest(key, seqno) {
@@ -159,15 +142,30 @@ fn versions_are_found_in_borrowed_bytes(rt: HostRuntime) {
     }
 }
 
-// How many reads of a parted table of six keys give the wrong version.
-fn wrong_reads(alloc: Global, bytes: Vec<u8>) -> sst_base::Result<u64> {
+// A parted table in memory.
+type InMemory = PartedTable<ByteSum, MemorySource>;
+
+// Opens the bytes of a parted table.
+fn open_bytes(alloc: Global, bytes: Vec<u8>) -> sst_base::Result<InMemory> {
     let source = MemorySource::new(Slice::from_vec(bytes)?);
-    let mut table = PartedTable::<ByteSum, MemorySource>::open_file(alloc, source)?;
+    Ok(InMemory::open_file(alloc, source)?)
+}
+
+// How many reads of a parted table of six keys give the wrong version.
+fn wrong_in(alloc: Global, table: &mut InMemory) -> sst_base::Result<u64> {
     let mut wrong = 0u64;
     for key in 0u8..14 {
-        wrong = wrong.saturating_add(wrong_of_key(alloc, &mut table, key)?);
+        wrong = wrong.saturating_add(wrong_of_key(alloc, table, key)?);
     }
     Ok(wrong)
+}
+
+// The same of a table that is opened.
+fn wrong_reads(alloc: Global, bytes: Vec<u8>) -> sst_base::Result<u64> {
+    match open_bytes(alloc, bytes) {
+        Ok(mut table) => wrong_in(alloc, &mut table),
+        Err(error) => Err(error),
+    }
 }
 
 // How many reads are wrong of a table of a row.
@@ -218,15 +216,15 @@ fn versions_across_parts_are_read(rt: HostRuntime) {
 type Place = (u8, u64);
 
 // The entry that a step of a scan gives, from the front or from the back.
-fn step<S: FrameSource>(
+fn step<I: Ends>(
     alloc: Global,
-    scan: &mut PartedScan<'_, ByteSum, S>,
+    scan: &mut I,
     forwards: bool,
 ) -> sst_base::Result<Option<InternalValue>> {
     if forwards {
-        scan.next_entry(alloc)
+        scan.first(alloc)
     } else {
-        scan.next_entry_back(alloc)
+        scan.last(alloc)
     }
 }
 
@@ -239,9 +237,9 @@ fn place_of(entry: &InternalValue) -> Place {
 
 // How many steps of a scan give no entry that is wanted at its place: from the front where a
 // pattern has a 1 for them, else from the back, as many as entries are wanted and one more.
-fn wrong_steps<S: FrameSource>(
+fn wrong_steps<I: Ends>(
     alloc: Global,
-    scan: &mut PartedScan<'_, ByteSum, S>,
+    scan: &mut I,
     wanted: &[Place],
     pattern: u64,
 ) -> sst_base::Result<u64> {
@@ -283,46 +281,33 @@ fn wanted(alloc: Global, first: u8, last: u8) -> sst_base::Result<Vec<Place>> {
 }
 
 // A parted table of six keys in memory.
-fn opened(
-    alloc: Global,
-    len: usize,
-    blocks: usize,
-) -> sst_base::Result<PartedTable<ByteSum, MemorySource>> {
+fn opened(alloc: Global, len: usize, blocks: usize) -> sst_base::Result<InMemory> {
     let bytes = written(alloc, len, PartSizes { blocks, bytes: 0 }, 10)?;
-    let source = MemorySource::new(Slice::from_vec(bytes)?);
-    Ok(PartedTable::open_file(alloc, source)?)
+    open_bytes(alloc, bytes)
 }
 
 // How many steps of a scan of the keys from one up to another are wrong.
-fn wrong_between(
+fn wrong_between<I: Ends + Drop>(
     alloc: Global,
-    scan: &mut PartedScan<'_, ByteSum, MemorySource>,
+    scan: I,
     first: u8,
     last: u8,
     pattern: u64,
 ) -> sst_base::Result<u64> {
+    let mut scan = scan;
     let wanted = wanted(alloc, first, last)?;
-    wrong_steps(alloc, scan, &wanted, pattern)
+    wrong_steps(alloc, &mut scan, &wanted, pattern)
 }
 
 // How many steps of a scan of all keys are wrong.
-fn wrong_in_all(
-    alloc: Global,
-    table: PartedTable<ByteSum, MemorySource>,
-    pattern: u64,
-) -> sst_base::Result<u64> {
-    let mut scan = table.scan();
-    wrong_between(alloc, &mut scan, 0, 12, pattern)
+fn wrong_in_all(alloc: Global, table: InMemory, pattern: u64) -> sst_base::Result<u64> {
+    wrong_between(alloc, table.scan(), 0, 12, pattern)
 }
 
 // How many steps of a scan of the keys behind the second one, up to the fifth, are wrong.
-fn wrong_in_range(
-    alloc: Global,
-    table: PartedTable<ByteSum, MemorySource>,
-    pattern: u64,
-) -> sst_base::Result<u64> {
-    let mut scan = table.scan_range(Bound::Excluded(b"k\x03"), Bound::Included(b"k\x09"));
-    wrong_between(alloc, &mut scan, 4, 9, pattern)
+fn wrong_in_range(alloc: Global, table: InMemory, pattern: u64) -> sst_base::Result<u64> {
+    let scan = table.scan_range(Bound::Excluded(b"k\x03"), Bound::Included(b"k\x09"));
+    wrong_between(alloc, scan, 4, 9, pattern)
 }
 
 // How many steps of a scan of all keys, or of some, are wrong.
@@ -474,8 +459,7 @@ fn file_of(alloc: Global, first: &Part, second: &Part) -> sst_base::Result<Vec<u
 
 // What a check of a file says.
 fn verified(alloc: Global, file: Vec<u8>) -> sst_base::Result<PartedSummary> {
-    let source = MemorySource::new(Slice::from_vec(file)?);
-    let mut table = PartedTable::<ByteSum, MemorySource>::open_file(alloc, source)?;
+    let mut table = open_bytes(alloc, file)?;
     table.verify(alloc)
 }
 

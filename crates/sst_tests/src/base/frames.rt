@@ -253,10 +253,15 @@ fn move_by(
     }
 }
 
+// Whether a move ended where the call of this number failed.
+fn ends_at(moved: &(Result<Header>, usize), call: usize) -> bool {
+    matches!(moved, (Err(Error::Io), calls) if *calls == call)
+}
+
 // The first of so many calls that may fail and is not the one that ends the move, if there is one.
 fn first_wrong(alloc: Global, device: Device, moved: Moved, calls: usize) -> Option<usize> {
     for fails_at in 0..calls {
-        if move_by(alloc, device, moved, fails_at) != (Err(Error::Io), fails_at) {
+        if !ends_at(&move_by(alloc, device, moved, fails_at), fails_at) {
             return Some(fails_at);
         }
     }

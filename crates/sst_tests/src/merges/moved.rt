@@ -173,26 +173,40 @@ fn check_steps<T: Keyed + AsEntry + Drop, I: Movable<T>>(
     Ok(())
 }
 
+/// Takes all steps of a merge of three lists, up to the first error.
+fn check_lists(
+    rt: &impl Abort,
+    alloc: Global,
+    first: &[InternalValue],
+    second: &[InternalValue],
+    third: &[InternalValue],
+) -> Result<()> {
+    assert!(rt; InternalValue::are_ordered(first));
+    assert!(rt; InternalValue::are_ordered(second));
+    assert!(rt; InternalValue::are_ordered(third));
+    let sources = vec![in alloc;
+        MovableList::new(first),
+        MovableList::new(second),
+        MovableList::new(third),
+    ]?;
+    check_steps(rt, alloc, &mut MovableMerge::new(sources))
+}
+
 #[test]
 fn a_merge_is_moved_as_a_window(rt: HostRuntime) -> Tested {
     let alloc = rt.alloc();
     let first = list_of(alloc, &FIRST, 1)?;
     let second = list_of(alloc, &SECOND, 2)?;
     let third = list_of(alloc, &THIRD, 3)?;
-    assert!(rt; InternalValue::are_ordered(&first));
-    assert!(rt; InternalValue::are_ordered(&second));
-    assert!(rt; InternalValue::are_ordered(&third));
-    let mut sources = Vec::new(alloc);
-    sources.push(MovableList::new(&first))?;
-    sources.push(MovableList::new(&second))?;
-    sources.push(MovableList::new(&third))?;
-    let mut merge = MovableMerge::new(sources);
-    check_steps(&rt, alloc, &mut merge)?;
+    check_lists(&rt, alloc, &first, &second, &third)?;
     Ok(())
 }
 
+/// A run: its handles, and its bytes.
+type Run = (RunHandles, Vec<u8>);
+
 /// A run of a list, in blocks of two entries.
-fn run_of(alloc: Global, rows: &[Row], list: u8) -> Result<(RunHandles, Vec<u8>)> {
+fn run_of(alloc: Global, rows: &[Row], list: u8) -> Result<Run> {
     let entries = list_of(alloc, rows, list)?;
     let config = RunConfig::new(16, NO_BUCKETS, 0);
     write_in_blocks(alloc, Vec::new(alloc), entries.as_slice(), 2, config)
@@ -205,24 +219,67 @@ fn blocks_of<'a>(alloc: Global, run: &RunRef<'a, ByteSum>) -> Result<Vec<DataBlo
     run.open_blocks(alloc)
 }
 
+/// Takes all steps of a merge of the blocks of three runs, up to the first error.
+fn check_blocks<'x>(
+    rt: &impl Abort,
+    alloc: Global,
+    first: &'x [DataBlockRef<'x, ByteSum>],
+    second: &'x [DataBlockRef<'x, ByteSum>],
+    third: &'x [DataBlockRef<'x, ByteSum>],
+) -> Result<()>
+    requires first { AreEntryBlocks (block_lists first.now) }
+    requires second { AreEntryBlocks (block_lists second.now) }
+    requires third { AreEntryBlocks (block_lists third.now) }
+{
+    let sources = vec![in alloc;
+        MovableBlocks::new(first),
+        MovableBlocks::new(second),
+        MovableBlocks::new(third),
+    ]?;
+    check_steps(rt, alloc, &mut MovableMerge::new(sources))
+}
+
+/// The same of three runs.
+fn check_runs(
+    rt: &impl Abort,
+    alloc: Global,
+    first: &RunRef<'_, ByteSum>,
+    second: &RunRef<'_, ByteSum>,
+    third: &RunRef<'_, ByteSum>,
+) -> Result<()> {
+    let first = blocks_of(alloc, first)?;
+    let second = blocks_of(alloc, second)?;
+    let third = blocks_of(alloc, third)?;
+    check_blocks(rt, alloc, &first, &second, &third)
+}
+
+/// A run over its bytes, which is checked.
+fn checked(alloc: Global, run: &Run) -> Result<RunRef<'_, ByteSum>> {
+    let (run, _) = RunRef::check(alloc, &run.1, &run.0)?;
+    Ok(run)
+}
+
+/// The same of three runs that are checked first.
+fn check_written(
+    rt: &impl Abort,
+    alloc: Global,
+    first: &Run,
+    second: &Run,
+    third: &Run,
+) -> Result<()> {
+    let first = checked(alloc, first)?;
+    let second = checked(alloc, second)?;
+    let third = checked(alloc, third)?;
+    check_runs(rt, alloc, &first, &second, &third)
+}
+
 #[test]
 fn a_merge_of_runs_is_moved_as_a_window(rt: HostRuntime) -> Tested {
     let alloc = rt.alloc();
     let first = run_of(alloc, &FIRST, 1)?;
     let second = run_of(alloc, &SECOND, 2)?;
     let third = run_of(alloc, &THIRD, 3)?;
-    let (first, _) = RunRef::<ByteSum>::check(alloc, &first.1, &first.0)?;
-    let first = blocks_of(alloc, &first)?;
-    let (second, _) = RunRef::<ByteSum>::check(alloc, &second.1, &second.0)?;
-    let second = blocks_of(alloc, &second)?;
-    let (third, _) = RunRef::<ByteSum>::check(alloc, &third.1, &third.0)?;
-    let third = blocks_of(alloc, &third)?;
-    let mut sources = Vec::new(alloc);
-    sources.push(MovableBlocks::new(&first))?;
-    sources.push(MovableBlocks::new(&second))?;
-    sources.push(MovableBlocks::new(&third))?;
-    let mut merge = MovableMerge::new(sources);
-    check_steps(&rt, alloc, &mut merge)?;
+    check_written(&rt, alloc, &first, &second, &third)?;
     Ok(())
 }
 
@@ -241,22 +298,63 @@ fn table_of(
     MovableTable::new(alloc, table)
 }
 
-/// Takes all steps of a merge of three tables, the second of which fails at a frame, up to the
-/// first error, after which each step and search is to give it.
-fn take_steps(rt: &impl Abort, alloc: Global, fails_at: usize) -> Result<()> {
+/// A table whose ends are moved.
+type MovedTable = MovableTable<ByteSum, FailingSource>;
+
+/// The merge of three sources that were not moved.
+fn merge_of<I: Movable<InternalValue> + Drop>(
+    alloc: Global,
+    first: Result<I>,
+    second: Result<I>,
+    third: Result<I>,
+) -> Result<MovableMerge<InternalValue, I>>
+    requires first { IfOk first (λ s. IsFreshSource entry_cmp (I.moved s)) }
+    requires second { IfOk second (λ s. IsFreshSource entry_cmp (I.moved s)) }
+    requires third { IfOk third (λ s. IsFreshSource entry_cmp (I.moved s)) }
+{
     let mut sources = Vec::new(alloc);
-    sources.push(table_of(alloc, &FIRST, 1, usize::MAX)?)?;
-    sources.push(table_of(alloc, &SECOND, 2, fails_at)?)?;
-    sources.push(table_of(alloc, &THIRD, 3, usize::MAX)?)?;
-    let mut merge = MovableMerge::new(sources);
-    let taken = check_steps(rt, alloc, &mut merge);
+    sources.push(first?)?;
+    sources.push(second?)?;
+    sources.push(third?)?;
+    Ok(MovableMerge::new(sources))
+}
+
+/// Checks that each step and search of a merge gives this error.
+fn check_ended(
+    rt: &impl Abort,
+    alloc: Global,
+    merge: &mut MovableMerge<InternalValue, MovedTable>,
+    error: &Error,
+) {
+    assert!(rt; merge.next(alloc).err() == Some(*error));
+    assert!(rt; merge.seek_upper(alloc, &[0]) == Err(*error));
+    assert!(rt; merge.next_back(alloc).err() == Some(*error));
+    assert!(rt; merge.seek(alloc, &[0]) == Err(*error));
+}
+
+/// Takes all steps of a merge, up to the first error, after which each step and search is to give
+/// it.
+fn check_to_error(
+    rt: &impl Abort,
+    alloc: Global,
+    merge: &mut MovableMerge<InternalValue, MovedTable>,
+) -> Result<()> {
+    let taken = check_steps(rt, alloc, merge);
     if let Err(error) = &taken {
-        assert!(rt; merge.next(alloc).err() == Some(*error));
-        assert!(rt; merge.seek_upper(alloc, &[0]) == Err(*error));
-        assert!(rt; merge.next_back(alloc).err() == Some(*error));
-        assert!(rt; merge.seek(alloc, &[0]) == Err(*error));
+        check_ended(rt, alloc, merge, error);
     }
     taken
+}
+
+/// The same of a merge of three tables, the second of which fails at a frame.
+fn take_steps(rt: &impl Abort, alloc: Global, fails_at: usize) -> Result<()> {
+    let mut merge = merge_of(
+        alloc,
+        table_of(alloc, &FIRST, 1, usize::MAX),
+        table_of(alloc, &SECOND, 2, fails_at),
+        table_of(alloc, &THIRD, 3, usize::MAX),
+    )?;
+    check_to_error(rt, alloc, &mut merge)
 }
 
 #[test]

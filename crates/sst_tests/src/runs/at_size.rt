@@ -2,12 +2,13 @@
 //! to succeed.
 ghost use Rattle.std.specs.Prelude.{None};
 
+use crate::runs::ends::Ends;
 use crate::runs::lists::{NO_BUCKETS, push};
 use crate::runs::many::counts_of;
 use crate::runs::written::write_in_blocks;
 use sst_base::{ByteSum, Error, InternalValue, Result, Slice, Steps, ValueType};
 use sstable_blocks::run::{RunConfig, RunHandles};
-use sstable_blocks::{MemorySource, Scan, Table};
+use sstable_blocks::{MemorySource, Table};
 use std::alloc::Global;
 
 /// How many blocks the run has, each of one entry.
@@ -48,39 +49,61 @@ fn is_found(alloc: Global, table: &mut Table<ByteSum, MemorySource>, key: &[u8])
     Ok(table.get(alloc, key, 2, &mut Steps::new())?.is_some())
 }
 
-/// Whether a step of a scan from the back gives an entry.
-fn gives_last(alloc: Global, scan: &mut Scan<'_, ByteSum, MemorySource>) -> Result<bool> {
-    Ok(scan.next_entry_back(alloc)?.is_some())
+/// Whether a step from the back gives an entry.
+fn gives_last<I: Ends + Drop>(alloc: Global, scan: I) -> Result<bool> {
+    let mut scan = scan;
+    Ok(scan.last(alloc)?.is_some())
 }
 
 /// Whether a scan of a table from the back gives its last entry.
 fn has_last(alloc: Global, table: Table<ByteSum, MemorySource>) -> Result<bool> {
-    let mut scan = table.scan();
-    gives_last(alloc, &mut scan)
+    gives_last(alloc, table.scan())
 }
 
 /// Whether a read of a table finds a key, and a scan from the back gives its last entry.
 fn is_read(alloc: Global, table: Table<ByteSum, MemorySource>, key: &[u8]) -> Result<bool> {
     let mut table = table;
-    if is_found(alloc, &mut table, key)? {
-        has_last(alloc, table)
+    match is_found(alloc, &mut table, key) {
+        Ok(true) => has_last(alloc, table),
+        found => found,
+    }
+}
+
+/// Opens a run as a table in memory.
+fn opened(
+    alloc: Global,
+    handles: &RunHandles,
+    bytes: Vec<u8>,
+) -> Result<Table<ByteSum, MemorySource>> {
+    let source = MemorySource::new(Slice::from_vec(bytes)?);
+    Ok(Table::open(alloc, source, *handles)?)
+}
+
+/// The same of a run, which is opened.
+fn is_run_read(alloc: Global, handles: &RunHandles, bytes: Vec<u8>, key: &[u8]) -> Result<bool> {
+    match opened(alloc, handles, bytes) {
+        Ok(table) => is_read(alloc, table, key),
+        Err(error) => Err(error),
+    }
+}
+
+/// How many entries the check of a run counts, which is read so.
+fn counted(alloc: Global, handles: &RunHandles, bytes: Vec<u8>, key: &[u8]) -> Result<u64> {
+    let (entries, _) = counts_of(alloc, handles, bytes.as_slice())?;
+    if is_run_read(alloc, handles, bytes, key)? {
+        Ok(entries)
     } else {
-        Ok(false)
+        Err(Error::OutOfOrder)
     }
 }
 
 /// Writes such a run, and reads it as a table in memory by its first and its last key. Returns how
 /// many entries its check counts.
 fn written_and_read(alloc: Global, blocks: u32, len: usize) -> Result<u64> {
-    let (handles, bytes) = write_blocks(alloc, blocks, len)?;
-    let (entries, _) = counts_of(alloc, &handles, bytes.as_slice())?;
-    let source = MemorySource::new(Slice::from_vec(bytes)?);
-    let table = Table::<ByteSum, MemorySource>::open(alloc, source, handles)?;
     let key = key_of(alloc, blocks.saturating_sub(1), len)?;
-    if is_read(alloc, table, key.as_slice())? {
-        Ok(entries)
-    } else {
-        Err(Error::OutOfOrder)
+    match write_blocks(alloc, blocks, len) {
+        Ok((handles, bytes)) => counted(alloc, &handles, bytes, key.as_slice()),
+        Err(error) => Err(error),
     }
 }
 

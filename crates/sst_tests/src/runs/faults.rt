@@ -3,6 +3,7 @@
 ghost use Rattle.std.specs.Prelude.{None};
 
 use crate::base::devices::{Failure, SlowFile, SlowWriter};
+use crate::runs::ends::Ends;
 use crate::runs::lists::{NO_BUCKETS, can_be_written};
 use crate::runs::written::{
     THREE, THREE_BLOCKS, list_of, value_of, worked_handles, write_in_blocks,
@@ -10,8 +11,8 @@ use crate::runs::written::{
 use sst_base::{BlockHandle, ByteSum, Count, Error, InternalValue, Output, Result, Slice};
 use sstable_blocks::Table;
 use sstable_blocks::run::{
-    FileSource, FrameSource, MemorySource, RunConfig, RunHandles, RunWriter, Scan,
-    read_entry_checked, write_run,
+    FileSource, FrameSource, MemorySource, RunConfig, RunHandles, RunWriter, read_entry_checked,
+    write_run,
 };
 use std::alloc::Global;
 use std::io;
@@ -176,10 +177,15 @@ fn move_by(alloc: Global, way: Way, fails_at: usize) -> Result<Moved> {
     }
 }
 
+/// Whether a move ended where the call of this number failed.
+fn ends_at(moved: &Result<Moved>, call: usize) -> bool {
+    matches!(moved, Ok((Err(Error::Io), calls)) if *calls == call)
+}
+
 /// The first of so many calls that may fail and is not the one that ends the move, if there is one.
 fn first_wrong(alloc: Global, way: Way, calls: usize) -> Option<usize> {
     for fails_at in 0..calls {
-        if move_by(alloc, way, fails_at) != Ok((Err(Error::Io), fails_at)) {
+        if !ends_at(&move_by(alloc, way, fails_at), fails_at) {
             return Some(fails_at);
         }
     }
@@ -283,13 +289,10 @@ fn a_writer_that_is_full_ends_a_run(rt: HostRuntime) {
     assert!(rt; is_ended_inside(rt.alloc()));
 }
 
-/// A scan of a source that may fail.
-type Scanned<'k> = Scan<'k, ByteSum, FailingSource>;
-
 /// Takes all that a scan gives before it ends.
-fn drain(alloc: Global, scan: &mut Scanned<'_>) {
+fn drain<I: Ends>(alloc: Global, scan: &mut I) {
     for _ in 0..10u8 {
-        let _ = scan.next_entry(alloc);
+        let _ = scan.first(alloc);
     }
 }
 
@@ -297,14 +300,15 @@ fn drain(alloc: Global, scan: &mut Scanned<'_>) {
 type Errors = (Option<Error>, Option<Error>);
 
 /// The errors of two steps of a scan.
-fn errors_of(alloc: Global, scan: &mut Scanned<'_>) -> Errors {
-    let first = scan.next_entry(alloc).err();
-    let last = scan.next_entry_back(alloc).err();
+fn errors_of<I: Ends>(alloc: Global, scan: &mut I) -> Errors {
+    let first = scan.first(alloc).err();
+    let last = scan.last(alloc).err();
     (first, last)
 }
 
 /// The errors of two steps of a scan after all that it gives.
-fn errors_after(alloc: Global, mut scan: Scanned<'_>) -> Errors {
+fn errors_after<I: Ends + Drop>(alloc: Global, scan: I) -> Errors {
+    let mut scan = scan;
     drain(alloc, &mut scan);
     errors_of(alloc, &mut scan)
 }

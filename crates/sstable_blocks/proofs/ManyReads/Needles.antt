@@ -79,9 +79,6 @@ module _ {S R : Type 0} (bytes : S → Option (List ℕ)) (failures reads : S �
   none_read None r needles = tt
   none_read (Some all) r needles = refl
 
-  pub still_reader : (first now : S) (r : R) → bytes now ≡ bytes first → reader_of r (bytes first) → reader_of r (bytes now)
-  still_reader first now r same is = subst (reader_of r) (sym same) is
-
   one_more : (o o' : Option (List ℕ)) (r0 r : R) (needles : List Needle) (i : ℕ) (x : Needle) (values : List (Option Entry)) (v : Option Entry) → o' ≡ o → answer r ≡ answer r0 → i < length needles → x ≡ get_or needles i x
       → IfSome o (λ all. read_each (read_one r0 all) (take i needles) ≡ Ok values) → IfSome o' (λ all. read_one r all x ≡ Ok v) → IfSome o (λ all. read_each (read_one r0 all) (take (suc i) needles) ≡ Ok (values ++ v ∷ []))
   one_more None o' r0 r needles i x values v same answers less is done given = tt

@@ -5,20 +5,13 @@ use Rattle.sst_base.specs.declared.error.Error.TheVariants.{Memory}
 use Rattle.sst_base.specs.BlockHandle.{HandleParts}
 use Rattle.sst_base.specs.Header.{◌>>=◌}
 use Rattle.sst_base.specs.declared.table.block.block_type.BlockType.TheVariants as types
-use Rattle.std.specs.Option.{option_map}
-use Rattle.sst_base.specs.Counted.{found_item}
-use Rattle.sst_block_core.specs.Checks.{index_check}
-use Rattle.sst_block_core.specs.Handles.{Handle, handles}
-use Rattle.sstable_blocks.specs.Lookup.{handle_for}
-use Rattle.sstable_blocks.specs.Opened.{range_of}
 use Rattle.sstable_blocks.specs.Filter.{Filter, filter_at}
 use Rattle.sstable_blocks.specs.FrameCountLaws.{asks_stop, asks_on, fails_on}
 use Rattle.sstable_blocks.specs.FrameCounts.{check_frames, frames_by_index, frames_to}
 use Rattle.sstable_blocks.specs.RunChecks.{filter_in_run}
-use Rattle.sstable_blocks.specs.RunReading.{Hashes, handles_at, payload_at}
+use Rattle.sstable_blocks.specs.RunReading.{Hashes, payload_at}
 use Rattle.sstable_blocks.specs.Sources.{AsksFor, FailsAs, filter_frames}
 use Rattle.sstable_blocks.specs.declared.run.RunHandles.{RunHandles}
-use Rattle.sstable_blocks.specs.BoundLaws.{found_by}
 use Rattle.sstable_blocks.specs.Walks.{frames_after}
 
 -- The frames of a check, by its filter.
@@ -74,34 +67,6 @@ module _ (c : Hashes) (h : RunHandles) (f f' a a' : ℕ) where
 
 -- The frames to a block, by the index.
 module _ (c : Hashes) (g : HandleParts) (needle : List ℕ) (seqno f f' a a' : ℕ) where
-  abbrev after_index : List Handle → ℕ
-  after_index hs = found_item (handle_for handles needle seqno hs)
-
-  -- an index whose frame is refused is the last
-  pub index_stops : (b : Option (List ℕ)) (R : Type 0) (e : Error) → a' ≡ a + 1 → IfSome b (λ all. FailsAs (f < f') R (payload_at c types.Index all g) e)
-      → IfSome b (λ all. AsksFor f f' a a' (e ≢ Memory) (frames_to c all g needle seqno))
-  index_stops None R e asked fails = tt
-  index_stops (Some all) R e asked fails =
-      asks_stop f f' a a' 1 R e (handles_at c all g) after_index asked
-      (fails_on (Some all) (f < f') R (λ all (r : Result (List ℕ) Error). r >>= (λ p. index_check p)) e (λ all. payload_at c types.Index all g) (λ all d. refl) fails)
-
-  -- and one that is refused
-  pub index_refused : (b : Option (List ℕ)) (p : List ℕ) (e : Error) → a' ≡ a + 1 → IfSome b (λ all. payload_at c types.Index all g ≡ Ok p) → index_check p ≡ Err e
-      → IfSome b (λ all. AsksFor f f' a a' (e ≢ Memory) (frames_to c all g needle seqno))
-  index_refused None p e asked payload refused = tt
-  index_refused (Some all) p e asked payload refused =
-      let none : frames_after (handles_at c all g) after_index ≡ 0 = ap (λ r. frames_after r after_index) (ap (λ r. r >>= (λ q. index_check q)) payload ∙ refused) in
-      (omega (arith, asked), λ _ _. omega (arith, asked, none))
-
-  -- behind one that passes the block is read, if there is one
-  pub index_passes : (b : Option (List ℕ)) (p : List ℕ) (hs : List Handle) (f'' a'' : ℕ) (block : Option HandleParts) (P : Type 0) → a' ≡ a + 1 → f ≤ f' → f' ≤ f'' → IfSome b (λ all. payload_at c types.Index all g ≡ Ok p)
-      → index_check p ≡ Ok hs → block ≡ option_map range_of (handle_for handles needle seqno hs) → a'' ≡ a' + found_item block → IfSome b (λ all. AsksFor f f'' a a'' P (frames_to c all g needle seqno))
-  index_passes None p hs f'' a'' block P asked grow grow' payload passes is more = tt
-  index_passes (Some all) p hs f'' a'' block P asked grow grow' payload passes is more =
-      let found : handles_at c all g ≡ Ok hs = ap (λ r. r >>= (λ q. index_check q)) payload ∙ passes in
-      let one : found_item block ≡ after_index hs = ap found_item is ∙ found_by (handle_for handles needle seqno hs) in
-      asks_on f f' f'' a a' a'' 1 P (handles_at c all g) hs after_index found asked grow grow' (omega (arith, more, one), λ _ _. omega (arith, more, one))
-
   -- where the filter allows the key, so many are asked for, and else none
   pub if_allowed : (b : Option (List ℕ)) (may : Bool) (P : Type 0) → may ≡ true → IfSome b (λ all. AsksFor f f' a a' P (frames_to c all g needle seqno))
       → IfSome b (λ all. AsksFor f f' a a' P (cond may (frames_to c all g needle seqno) 0))

@@ -1,9 +1,8 @@
 -- Reads of a run at its place in a source.
-use Rattle.std.proofs.Common.{◌≡◌, ℕ, ◌+◌, List, refl, ap, inl, arith, Option, IfSome, Result}
+use Rattle.std.proofs.Common.{ℕ, List, inl, Option, Result}
 use Rattle.sst_base.specs.declared.error.Error.{Error}
-use Rattle.sstable_blocks.specs.RunPlaces.{AsksAll, bytes_at}
+use Rattle.sstable_blocks.specs.RunPlaces.{AsksAll}
 use Rattle.sstable_blocks.specs.Sources.{AsksExactly, AsksUpTo, UsesSource}
-use Rattle.sstable_blocks.specs.declared.run.place.RunPlace.{RunPlace}
 use Rattle.sstable_blocks.specs.declared.run.place.RunPlace.TheVariants.{Whole}
 
 -- a read of a run that is the whole source asks for all of its frames
@@ -16,7 +15,3 @@ asks_whole bytes failures reads is_reliable n old new r s all = record {
   io = s.io;
   asks = all (inl tt);
 }
-
--- the bytes of the run stay the same
-pub same_at : (p : RunPlace) (before after : Option (List ℕ)) → after ≡ before → bytes_at p after ≡ bytes_at p before
-same_at p before after same = ap (bytes_at p) same
