@@ -96,16 +96,17 @@ fn add_cached<S: FrameSource>(
 }
 
 // The same so many times, through a cache that is empty first.
-fn cached(
+fn cached<S: FrameSource + Drop>(
     alloc: Global,
-    table: Table<Hash, MemorySource>,
+    table: Table<Hash, S>,
     keys: &[&[u8]],
     times: u64,
 ) -> Option<u64> {
     let mut cache = BlockCache::new(alloc, MOST).ok()?;
     let mut table = CachedTable::new(&mut cache, table).ok()?;
     let mut sum = 0;
-    for _ in 0..times {
+    for turn in 0..times {
+        let _ = turn;
         sum = add_cached(sum, &mut cache, &mut table, keys, alloc)?;
     }
     Some(sum)
