@@ -2,7 +2,7 @@
 //! at a time, together, and through a cache of blocks.
 //!
 //! The arguments are those of the calls of `run`.
-ghost use Rattle.sst_parts.specs.Caches.{IsAdded};
+ghost use Rattle.sst_parts.specs.CachedBlocks.{IsAdded};
 
 use crate::REFUSED;
 use crate::data_block::NEWEST;
@@ -84,8 +84,8 @@ fn add_cached<S: FrameSource>(
     needles: &[&[u8]],
     alloc: Global,
 ) -> Option<u64>
-    requires { IsAdded S.bytes cache.old table.old }
-    ensures { IsAdded S.bytes cache.new table.new }
+    requires { IsAdded S.bytes cache.old table.old.number table.old.table.source }
+    ensures { IsAdded S.bytes cache.new table.new.number table.new.table.source }
 {
     let mut sum = so_far;
     for needle in needles {

@@ -2,6 +2,8 @@ pub mod AnyScans
 pub mod AnyLaws
 pub mod AnyTables
 pub mod Caches
+pub mod CachedBlocks
+pub mod CachedParts
 pub mod Parts
 pub mod PartReaders
 pub mod PartScans

@@ -1,12 +1,16 @@
 //! Over `sstable_blocks`: parted tables, which are table files one after the other and an index
 //! over them, of which a read reads of one part the footer, the filter, the index and one block;
 //! scans of them from both ends, a part at a time, also over borrowed bytes without checks; reads
-//! of many keys of a table, each block once; and a cache of blocks, which tables share.
+//! of many keys of a table, each block once; and caches of blocks and of open parts, which tables
+//! share.
 #![tactic(auto)]
 
 pub mod any_scan;
 pub mod any_table;
 pub mod cache;
+pub mod cached_block;
+pub mod cached_part;
+pub mod cached_parted;
 pub mod cached_table;
 pub mod checking;
 mod closed;
@@ -23,7 +27,10 @@ pub mod writer;
 
 pub use any_scan::AnyScan;
 pub use any_table::AnyTable;
-pub use cache::BlockCache;
+pub use cache::Cache;
+pub use cached_block::BlockCache;
+pub use cached_part::{Numbers, PartCache};
+pub use cached_parted::CachedParted;
 pub use cached_table::CachedTable;
 pub use checking::PartedSummary;
 pub use parted_ref::PartedRef;

@@ -1,6 +1,9 @@
 //! Reading a part of a source: each frame that is read is verified and checked.
-ghost use Rattle.std.specs.Prelude.{◌≡◌, ◌+◌, ◌<◌, ◌≤◌, ◌^◌, IfSome, OnOk, length};
+ghost use Rattle.std.specs.Prelude.{◌≡◌, ◌+◌, ◌<◌, ◌≤◌, ◌^◌, ℕ, List, IfErr, IfOk, IfSome, OnOk};
+ghost use Rattle.std.specs.Prelude.{length};
 ghost use Rattle.std.specs.Option.{option_map};
+ghost use Rattle.sst_parts.specs.CachedParts.{IsOpenIn};
+ghost use Rattle.sst_parts.specs.PartReaders.{read_open};
 ghost use Rattle.sst_parts.specs.Parts.{most_by_places, places_in, read_part};
 ghost use Rattle.sstable_blocks.specs.Lookup.{handle_for};
 ghost use Rattle.sstable_blocks.specs.Opened.{range_of};
@@ -8,11 +11,11 @@ ghost use Rattle.sstable_blocks.specs.Prelude.{CountsBetween, handles};
 ghost use Rattle.sstable_blocks.specs.ReadCosts.{find_cost};
 ghost use Rattle.sstable_blocks.specs.RunPlaces.{IsInside, part_in};
 ghost use Rattle.sstable_blocks.specs.RunReading.{hashes};
-ghost use Rattle.sstable_blocks.specs.Sources.{AsksUpTo, ReadsAs, UsesSource};
+ghost use Rattle.sstable_blocks.specs.Sources.{AsksUpTo, FailsAs, ReadsAs, UsesSource};
 
 use sstable_blocks::run::checked::read_entry_at;
 use sstable_blocks::run::footer::FOOTER_LEN;
-use sstable_blocks::run::{FrameSource, RunHandles, RunPlace, decode_footer};
+use sstable_blocks::run::{FrameSource, OpenRun, RunHandles, RunPlace, decode_footer};
 use sstable_blocks::table::index_block::IndexBlockRef;
 use sstable_blocks::{
     BlockHandle, BlockHash, BlockOffset, Error, IndexBlock, InternalValue, Result, SeqNo, Steps,
@@ -99,6 +102,26 @@ pub(crate) fn places_from<S: FrameSource>(
     let place = BlockHandle::new(BlockOffset(start), FOOTER);
     let footer = source.read_frame(alloc, &place)?;
     decode_footer(footer.as_slice())
+}
+
+// Opens the part in a range: reads its footer, its filter and its index.
+pub(crate) fn open_part<H: BlockHash, S: FrameSource>(
+    alloc: Global,
+    source: &mut S,
+    part: &BlockHandle,
+) -> Result<OpenRun<H>>
+    requires { part.now.offset + part.now.size < 2 ^ 64 }
+    ensures source { UsesSource S.bytes S.failures S.reads S.is_reliable
+        (AsksUpTo 3) source.old source.new result }
+    ensures opened { IfOk result
+        (IsOpenIn (hashes H.hash64 H.hash128) (S.bytes source.old) part.now) }
+    ensures refused { IfErr result (λ e. IfSome (S.bytes source.old) (λ all. (needle : List ℕ)
+        (seqno : ℕ) → FailsAs (S.failures source.old < S.failures source.new)
+        (S.is_reliable source.old)
+        (read_open (hashes H.hash64 H.hash128) all part.now needle seqno) e)) }
+{
+    let handles = places_from(alloc, source, part)?;
+    OpenRun::open(alloc, source, &RunPlace::Part(*part), handles)
 }
 
 // The first match in the part in a range: of the part the footer, the filter, the index and one

@@ -11,7 +11,7 @@ ghost use Rattle.sstable_blocks.specs.RunReading.{hashes};
 ghost use Rattle.sstable_blocks.specs.Sources.{AsksUpTo, FailsAs, ReadsAs, UsesSource};
 ghost use Rattle.sstable_blocks.specs.Tables.{kept_of};
 
-use crate::part::{find_part, places_from};
+use crate::part::{find_part, open_part};
 use sstable_blocks::run::{FrameSource, KeyReader, LastBlock, OpenRun, RunPlace};
 use sstable_blocks::{BlockHandle, BlockHash, IndexBlock, InternalValue, Needle, Result, Steps};
 use std::alloc::Global;
@@ -51,8 +51,7 @@ impl<H: BlockHash> OpenPart<H> {
             (S.is_reliable source.old)
             (read_open (hashes H.hash64 H.hash128) all range.now needle seqno) e)) }
     {
-        let handles = places_from(alloc, source, range)?;
-        let run = OpenRun::open(alloc, source, &RunPlace::Part(*range), handles)?;
+        let run = open_part(alloc, source, range)?;
         Ok(OpenPart {
             range: *range,
             run,

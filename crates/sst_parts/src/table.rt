@@ -3,6 +3,8 @@ ghost use Rattle.std.specs.Prelude.{◌≡◌, ◌+◌, ◌<◌, ◌^◌, Ok, If
 ghost use Rattle.std.specs.Prelude.{None, true};
 ghost use Rattle.std.specs.Prelude.{OnOk, length};
 ghost use Rattle.std.specs.Option.{option_map};
+ghost use Rattle.sst_parts.specs.CachedBlocks.{IsAdded};
+ghost use Rattle.sst_parts.specs.CachedParts.{LeavesCaches, cached_frames, part_for};
 ghost use Rattle.sst_parts.specs.PartChecks.{ForParted, IsPartedSummary, check_parted};
 ghost use Rattle.sst_parts.specs.PartChecks.{parts_frames, summary_of_parts};
 ghost use Rattle.sst_parts.specs.PartReaders.{FindsAllInParts, needles_frames};
@@ -21,6 +23,8 @@ ghost use Rattle.sstable_blocks.specs.Scans.{AtHandle};
 ghost use Rattle.sstable_blocks.specs.Sources.{AsksAs, AsksExactly, AsksIfOk, AsksUpTo};
 ghost use Rattle.sstable_blocks.specs.Sources.{FailsAs, GivesOr, ReadsAs, UsesSource};
 
+use crate::cached_block::BlockCache;
+use crate::cached_part::{Numbers, PartCache, get_by_tops};
 use crate::checking::{PartedSummary, check_parts};
 use crate::laws::{
     accepted_parted_is_sound, open_part_is_read, parted_is_accepted, parted_is_read,
@@ -209,6 +213,53 @@ impl<H: BlockHash, S: FrameSource> PartedTable<H, S> {
         read_by_tops::<H, S>(alloc, &mut self.source, &self.index, needle, seqno, steps)
     }
 
+    // What `get` returns, where the parts that a cache keeps and the blocks that another one keeps
+    // are not read again.
+    pub(crate) fn get_through(
+        &mut self,
+        alloc: Global,
+        parts: &mut PartCache<H>,
+        blocks: &mut BlockCache<H>,
+        numbers: &Numbers,
+        needle: &[u8],
+        seqno: SeqNo,
+        steps: &mut Steps,
+    ) -> Result<Option<InternalValue>>
+        requires part { IsAdded S.bytes parts.old numbers.now.of_parts self.old.source }
+        requires block { IsAdded S.bytes blocks.old numbers.now.of_blocks self.old.source }
+        ensures kept { self.new ≡ record self.old { source = self.new.source } }
+        ensures source { UsesSource S.bytes S.failures S.reads S.is_reliable
+            (AsksUpTo (cached_frames H.hash64 parts.old.kept blocks.old.kept numbers.now
+            (part_for self.old.tops needle.now seqno) needle.now seqno))
+            self.old.source self.new.source result }
+        ensures exact { ReadsAs S.bytes S.failures S.is_reliable self.old.source self.new.source
+            (λ x. x) result (λ all. read_open_by_top (hashes H.hash64 H.hash128) all
+            (handle_for handles needle.now seqno self.old.tops) needle.now seqno) }
+        ensures sound { IfSome (S.bytes self.old.source)
+            (FindsInParts (hashes H.hash64 H.hash128) self.old.top needle.now seqno result) }
+        ensures counts { IfSome (S.bytes self.old.source)
+            (λ all. CountsBetween steps.old steps.new (1, 0)
+            (parted_most all self.old.tops self.old.interval needle.now seqno)) }
+        ensures looked { steps.old.heads < steps.new.heads }
+        ensures caches { LeavesCaches (hashes H.hash64 H.hash128)
+            (record { parts = parts.old; blocks = blocks.old }) numbers.now
+            (part_for self.old.tops needle.now seqno) needle.now seqno result
+            (record { parts = parts.new; blocks = blocks.new }) }
+    {
+        open_part_is_read();
+        get_by_tops::<H, S>(
+            alloc,
+            &mut self.source,
+            &self.index,
+            parts,
+            blocks,
+            numbers,
+            needle,
+            seqno,
+            steps,
+        )
+    }
+
     /// Returns for each needle the first entry with its key below its bound, in the order of the
     /// needles. The part that was read last stays open: a footer, a filter and an index are read
     /// only where the part is not that one, and a block only where it is not the one that was read
@@ -305,6 +356,13 @@ impl<H: BlockHash, S: FrameSource> PartedTable<H, S> {
         // The size of the index has 32 bits.
         let _fits = self.top.size();
         check_parts::<H, S>(alloc, &mut self.source, &self.index)
+    }
+
+    /// Returns the source.
+    pub fn source(&self) -> &S
+        ensures { result.now ≡ self.now.source }
+    {
+        &self.source
     }
 
     /// Returns where the index of the parts is.

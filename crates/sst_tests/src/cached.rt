@@ -1,6 +1,6 @@
 // Tables that are read through a cache of blocks, against reads without one.
 ghost use Rattle.std.specs.Prelude.{OnOk};
-ghost use Rattle.sst_parts.specs.Caches.{IsAdded, StillAdded};
+ghost use Rattle.sst_parts.specs.CachedBlocks.{IsAdded};
 
 use crate::Tested;
 use crate::runs::lists::{NO_BUCKETS, push};
@@ -58,8 +58,8 @@ fn differs_from<H: BlockHash, S: FrameSource>(
     seqno: u64,
     want: &Option<InternalValue>,
 ) -> Result<bool>
-    requires { IsAdded S.bytes cache.old cached.old }
-    ensures { OnOk result (StillAdded S.bytes cache.old cache.new cached.new) }
+    requires { IsAdded S.bytes cache.old cached.old.number cached.old.table.source }
+    ensures { OnOk result (IsAdded S.bytes cache.new cached.new.number cached.new.table.source) }
 {
     let got = cached.get(cache, alloc, key, seqno, &mut Steps::new())?;
     Ok(!same(&got, want))
@@ -74,8 +74,8 @@ fn differs<H: BlockHash, S: FrameSource>(
     key: &[u8],
     seqno: u64,
 ) -> Result<bool>
-    requires { IsAdded S.bytes cache.old cached.old }
-    ensures { OnOk result (StillAdded S.bytes cache.old cache.new cached.new) }
+    requires { IsAdded S.bytes cache.old cached.old.number cached.old.table.source }
+    ensures { OnOk result (IsAdded S.bytes cache.new cached.new.number cached.new.table.source) }
 {
     let want = plain.get(alloc, key, seqno, &mut Steps::new())?;
     differs_from(alloc, cache, cached, key, seqno, &want)
@@ -88,7 +88,7 @@ fn count_wrong<H: BlockHash, S: FrameSource>(
     cached: &mut CachedTable<H, S>,
     plain: &mut Table<H, S>,
 ) -> Result<u64>
-    requires { IsAdded S.bytes cache.old cached.old }
+    requires { IsAdded S.bytes cache.old cached.old.number cached.old.table.source }
 {
     let mut wrong = 0u64;
     for key in 0u8..21 {

@@ -5,4 +5,3 @@ pub mod ByIndex
 pub mod FileRanges
 pub mod OpenedBlocks
 pub mod Placed
-pub mod Ranges

@@ -22,6 +22,7 @@ pub mod RunChecks
 pub mod FrameCounts
 pub mod Footer
 pub mod RunPlaces
+pub mod RunPlaceLaws
 pub mod Tables
 pub mod Tallies
 pub mod BlockReading
@@ -44,6 +45,7 @@ pub mod MeaningLaws
 pub mod SoundReadLaws
 pub mod KeptLaws
 pub mod LocatedLaws
+pub mod FoundLaws
 pub mod ManyReads
 pub mod TableCountLaws
 pub mod FrameCountLaws

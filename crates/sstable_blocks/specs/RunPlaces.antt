@@ -1,5 +1,5 @@
 -- Where a run lies in its source.
-use Rattle.std.specs.Prelude.{◌≡◌, ◌≢◌, ◌⊎◌, ℕ, ◌+◌, ◌≤◌, ◌<◌, ◌^◌, List, length, take, drop, Option, IfSome, Result, IfErr}
+use Rattle.std.specs.Prelude.{◌≡◌, ◌≢◌, ◌⊎◌, ℕ, ◌+◌, ◌≤◌, ◌<◌, ◌^◌, nat_le, if◌then◌else◌, List, length, take, drop, Option, None, Some, IfSome, Result, IfErr}
 use Rattle.std.specs.Option.{option_map}
 use Rattle.sst_base.specs.BlockHandle.{HandleParts}
 use Rattle.sst_base.specs.declared.error.Error.{Error}
@@ -33,6 +33,11 @@ placed bytes p s = bytes_at p (bytes s)
 abbrev pub IsPlaced : RunPlace → Option (List ℕ) → Type 0
 IsPlaced Whole bytes = Unit {0}
 IsPlaced (Part g) bytes = IsInside g bytes
+
+-- the range in the source of a frame of a run: of a part only of one that is inside it
+abbrev pub frame_of : RunPlace → HandleParts → Option HandleParts
+frame_of Whole h = Some h
+frame_of (Part g) h = if nat_le (h.offset + h.size) g.size then Some (record { offset = g.offset + h.offset; size = h.size }) else None
 
 -- a run is the whole source
 abbrev pub IsWhole : RunPlace → Type 0

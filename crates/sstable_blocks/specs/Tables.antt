@@ -1,5 +1,6 @@
 -- Tables: runs in a source, whose filter and index are read once.
 use Rattle.std.specs.Prelude.{◌≡◌, ℕ, ◌<◌, nat_lt, if◌then◌else◌, Bool, true, false, List, length, Option, Some, None, IfSome, Result, Ok, Err}
+use Rattle.std.specs.Option.{option_map}
 use Rattle.sst_base.specs.BlockHandle.{HandleParts}
 use Rattle.sst_base.specs.Counted.{Counted, CountsExactly, found_item}
 use Rattle.sst_base.specs.Entry.{Entry}
@@ -12,7 +13,7 @@ use Rattle.sst_block_core.specs.Stages.{items_in}
 use Rattle.sstable_blocks.specs.Filter.{filter_at}
 use Rattle.sstable_blocks.specs.Footer.{table_handles}
 use Rattle.sstable_blocks.specs.Lookup.{handle_for, place_for}
-use Rattle.sstable_blocks.specs.Opened.{index_in, payload_in}
+use Rattle.sstable_blocks.specs.Opened.{index_in, payload_in, range_of}
 use Rattle.sstable_blocks.specs.ReadCosts.{interval_in}
 use Rattle.sstable_blocks.specs.RunReading.{Hashes, payload_at, handles_at, filter_answer, read_block}
 use Rattle.sstable_blocks.specs.declared.run.RunHandles.{RunHandles}
@@ -97,6 +98,12 @@ abbrev pub located : (List ℕ → ℕ) → Option (List ℕ) → List Handle �
 located hash64 filter hs needle seqno = do
   may ← kept_says hash64 filter needle
   Ok (if may then block_place hs needle seqno else None)
+
+-- where the block is that can hold a key below a sequence number, if there is one, by what was kept
+abbrev pub found_block : (List ℕ → ℕ) → Option (List ℕ) → List Handle → List ℕ → ℕ → Result (Option HandleParts) Error
+found_block hash64 filter hs needle seqno = do
+  may ← kept_says hash64 filter needle
+  Ok (if may then option_map range_of (handle_for handles needle seqno hs) else None)
 
 -- the first match by the filter and the handles that were kept
 abbrev pub read_kept : Hashes → List ℕ → Option (List ℕ) → List Handle → List ℕ → ℕ → Result (Option Entry) Error

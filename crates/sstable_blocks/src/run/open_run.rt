@@ -6,7 +6,7 @@ ghost use Rattle.sst_block_core.specs.Handles.{handles};
 ghost use Rattle.sstable_blocks.specs.FrameCounts.{open_frames};
 ghost use Rattle.sstable_blocks.specs.Lookup.{handle_for};
 ghost use Rattle.sstable_blocks.specs.Opened.{range_of};
-ghost use Rattle.sstable_blocks.specs.ReadCosts.{most_by, CountsHandle, CountsRead};
+ghost use Rattle.sstable_blocks.specs.ReadCosts.{find_cost, most_by, CountsHandle, CountsRead};
 ghost use Rattle.sstable_blocks.specs.RunReading.{hashes, block_items_at, handles_at, read_checked};
 ghost use Rattle.sstable_blocks.specs.Scans.{AtHandle, index_cost};
 ghost use Rattle.sstable_blocks.specs.Sound.{FindsFirst};
@@ -15,7 +15,7 @@ ghost use Rattle.sstable_blocks.specs.Sources.{AsksAs, AsksIfOk, AsksUpTo, Gives
 ghost use Rattle.sstable_blocks.specs.Sources.{ReadsAs, UsesSource, filter_frames};
 ghost use Rattle.sstable_blocks.specs.Tables.{filter_kept, kept_of, IsOpenedOf};
 ghost use Rattle.sstable_blocks.specs.Tables.{IsBlockIn, IsIndexIn, kept_says, read_kept};
-ghost use Rattle.sstable_blocks.specs.Tables.{LooksBy, frames_by, located};
+ghost use Rattle.sstable_blocks.specs.Tables.{LooksBy, found_block, frames_by, located};
 
 use super::RunHandles;
 use super::checked::read_in_block;
@@ -91,6 +91,27 @@ fn kept_index_from<H: BlockHash, S: FrameSource>(
     IndexBlock::check(alloc, block)
 }
 
+// Where the block is that can hold a key, by a filter and an index that were kept.
+#[inline(always)]
+fn find_by_kept<H: BlockHash>(
+    filter: &Option<KeptFilter>,
+    index: &IndexSearch<'_>,
+    needle: &[u8],
+    seqno: SeqNo,
+    steps: &mut Steps,
+) -> Option<BlockHandle>
+    ensures exact { Ok result
+        ≡ found_block H.hash64 filter.now index.now.items needle.now seqno }
+    ensures counts { CountsBetween steps.old steps.new (0, 0)
+        (find_cost index.now.interval (length index.now.items)) }
+    ensures looked { LooksBy (kept_says H.hash64 filter.now needle.now) steps.old steps.new }
+{
+    if !kept_allows::<H>(filter, needle) {
+        return None;
+    }
+    index.find(needle, seqno, steps)
+}
+
 // The first match by a filter and an index that were kept.
 fn read_by_kept<H: BlockHash, S: FrameSource>(
     alloc: Global,
@@ -118,10 +139,10 @@ fn read_by_kept<H: BlockHash, S: FrameSource>(
         (most_by all index.now.items index.now.interval needle.now seqno)) }
     ensures looked { LooksBy (kept_says H.hash64 filter.now needle.now) steps.old steps.new }
 {
-    if !kept_allows::<H>(filter, needle) {
+    let handle = find_by_kept::<H>(filter, index, needle, seqno, steps);
+    if handle.is_none() {
         return Ok(None);
     }
-    let handle = index.find(needle, seqno, steps);
     read_in_block::<H, S>(alloc, source, place, &handle, needle, seqno, steps)
 }
 
@@ -249,6 +270,26 @@ impl<H: BlockHash> OpenRun<H> {
             seqno,
             steps,
         )
+    }
+
+    /// Returns where the block is that can hold this key below `seqno`, if there is one: none where
+    /// the filter rules the key out. No frame is read. What is examined is added to `steps`: at
+    /// least a head of the index where the filter allows the key, else nothing.
+    pub fn find_block(
+        &self,
+        needle: &[u8],
+        seqno: SeqNo,
+        steps: &mut Steps,
+    ) -> Option<BlockHandle>
+        ensures exact { Ok result
+            ≡ found_block H.hash64 self.now.filter self.now.index needle.now seqno }
+        ensures counts { CountsBetween steps.old steps.new (0, 0)
+            (find_cost self.now.interval (length self.now.index)) }
+        ensures looked { LooksBy (kept_says H.hash64 self.now.filter needle.now)
+            steps.old steps.new }
+    {
+        let search = IndexSearch::new(self.index.by_ref());
+        find_by_kept::<H>(&self.filter, &search, needle, seqno, steps)
     }
 
     /// Returns the index of the block that can hold this key below `seqno`, if there is one: none

@@ -1,7 +1,7 @@
 //! Where a run lies in its source.
-ghost use Rattle.std.specs.Prelude.{◌≡◌, ◌+◌, ◌<◌, ◌≤◌, ◌^◌, IfOk, IfSome, IsNone, OnOk};
+ghost use Rattle.std.specs.Prelude.{◌≡◌, ◌+◌, ◌<◌, ◌^◌, IfOk, IfSome, None, OnOk};
 ghost use Rattle.sst_base.specs.Bytes.{IsBytes};
-ghost use Rattle.sstable_blocks.specs.RunPlaces.{AsksAll, IsInside, IsPlaced, placed};
+ghost use Rattle.sstable_blocks.specs.RunPlaces.{AsksAll, IsPlaced, frame_of, placed};
 ghost use Rattle.sstable_blocks.specs.RunReading.{hashes, block_items_at, handles_at, payload_at};
 ghost use Rattle.sstable_blocks.specs.Sources.{AsksUpTo, ReadsAs, UsesSource};
 ghost use Rattle.sstable_blocks.specs.Tables.{IsBlockIn, IsIndexIn};
@@ -25,10 +25,7 @@ pub enum RunPlace {
 // The range in the source of a frame of a part, if it is inside the part.
 fn frame_in_part(part: &BlockHandle, handle: &BlockHandle) -> Option<BlockHandle>
     requires { part.now.offset + part.now.size < 2 ^ 64 }
-    ensures offset { IfSome result (λ p. p.offset ≡ part.now.offset + handle.now.offset) }
-    ensures size { IfSome result (λ p. p.size ≡ handle.now.size) }
-    ensures inside { IfSome result (λ p. handle.now.offset + handle.now.size ≤ part.now.size) }
-    ensures outside { IsNone result → part.now.size < handle.now.offset + handle.now.size }
+    ensures { result ≡ frame_of (Part part.now) handle.now }
 {
     let (offset, size) = (*handle.offset(), u64::from(handle.size()));
     let len = u64::from(part.size());
@@ -41,30 +38,19 @@ fn frame_in_part(part: &BlockHandle, handle: &BlockHandle) -> Option<BlockHandle
     Some(BlockHandle::new(BlockOffset(*part.offset() + offset), handle.size()))
 }
 
-// The block of a type in a frame of a part.
-fn block_in_part<H: BlockHash, S: FrameSource>(
-    alloc: Global,
-    source: &mut S,
-    part: &BlockHandle,
-    handle: &BlockHandle,
-    block_type: BlockType,
-) -> Result<Block>
-    requires { IsInside part.now (S.bytes source.old) }
-    ensures source { UsesSource S.bytes S.failures S.reads S.is_reliable
-        (AsksUpTo 1) source.old source.new result }
-    ensures asked { AsksAll (Part part.now) 1 result (S.reads source.old) (S.reads source.new) }
-    ensures cells { OnOk result (IfSome (placed S.bytes (Part part.now) source.old) IsBytes) }
-    ensures exact { ReadsAs (placed S.bytes (Part part.now)) S.failures S.is_reliable source.old
-        source.new (λ b. b.payload) result
-        (λ all. payload_at (hashes H.hash64 H.hash128) block_type all handle.now) }
-{
-    match frame_in_part(part, handle) {
-        None => Err(Error::BadHandle),
-        Some(frame) => block_from::<H, S>(alloc, source, &frame, block_type),
-    }
-}
-
 impl RunPlace {
+    /// Returns the range in the source of a frame of the run, or `None` if the frame is not inside
+    /// the part that the run is.
+    pub fn frame(&self, handle: &BlockHandle) -> Option<BlockHandle>
+        requires { IsPlaced self.now None }
+        ensures { result ≡ frame_of self.now handle.now }
+    {
+        match self {
+            RunPlace::Whole => Some(*handle),
+            RunPlace::Part(part) => frame_in_part(part, handle),
+        }
+    }
+
     /// Reads the frame that a handle of the run names, of a block of this type, as [`block_from`]
     /// does.
     ///
@@ -88,9 +74,9 @@ impl RunPlace {
             source.new (λ b. b.payload) result
             (λ all. payload_at (hashes H.hash64 H.hash128) block_type all handle.now) }
     {
-        match self {
-            RunPlace::Whole => block_from::<H, S>(alloc, source, handle, block_type),
-            RunPlace::Part(part) => block_in_part::<H, S>(alloc, source, part, handle, block_type),
+        match self.frame(handle) {
+            None => Err(Error::BadHandle),
+            Some(frame) => block_from::<H, S>(alloc, source, &frame, block_type),
         }
     }
 

@@ -1,12 +1,12 @@
 use Rattle.std.proofs.Common.{ℕ, ◌<◌, ◌^◌, List, length, arith, sym, ◌∙◌, ap}
 use Rattle.lru.specs.LruCache.{lru_cache}
-use Rattle.sst_parts.specs.Caches.{Kept}
+use Rattle.sst_parts.specs.Caches.{Kept, Place, place_at}
 use Rattle.sst_parts.proofs.Cached.Caching.{ok_gives, put_first}
 use Rattle.sst_parts.proofs.cache.put_first.Goals as goal
 
 pub returns-clause-put : goal.returns-clause-put
 returns-clause-put g c = λ put.
-    let place : ℕ × ℕ = (c.args.number, c.args.index) in
+    let place : Place = place_at c.args.number c.args.range.now in
     let few : length c.args.kept.now.entries < 2 ^ 63 = omega (arith, c.len-len.ensures.len, c.len-len.ensures.fits) in
     let e = ok_gives c.put.result _ (sym c.is_ok.ensures.value ∙ put) c.put.ensures.entries in
-    e ∙ ap (λ (es : List Kept). lru_cache es c.args.kept.now.cap) (put_first c.args.kept.now place c.args.block c.requires.absent c.requires.unbounded few)
+    e ∙ ap (λ (es : List (Kept g.row.V.Denot)). lru_cache es c.args.kept.now.cap) (put_first c.args.kept.now place c.args.value c.requires.absent c.requires.unbounded few)

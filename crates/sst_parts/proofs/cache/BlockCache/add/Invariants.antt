@@ -1,4 +1,0 @@
-use Rattle.sst_parts.proofs.cache.BlockCache.add.Given as goal
-
-abbrev pub ghost-push_chosen : goal.ghost-push_chosen
-ghost-push_chosen g a = (g.S.FrameSource.bytes a.shown.now.source, a.shown.now.index)
