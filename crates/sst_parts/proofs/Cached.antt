@@ -1,3 +1,4 @@
--- Reads through a cache of blocks.
+-- Reads through caches.
 pub mod CachedReads
 pub mod Caching
+pub mod PartsKept

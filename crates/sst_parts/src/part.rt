@@ -121,7 +121,8 @@ pub(crate) fn open_part<H: BlockHash, S: FrameSource>(
         (read_open (hashes H.hash64 H.hash128) all part.now needle seqno) e)) }
 {
     let handles = places_from(alloc, source, part)?;
-    OpenRun::open(alloc, source, &RunPlace::Part(*part), handles)
+    let run = OpenRun::open(alloc, source, &RunPlace::Part(*part), handles)?;
+    Ok(run)
 }
 
 // The first match in the part in a range: of the part the footer, the filter, the index and one

@@ -47,6 +47,7 @@ pub mod KeptLaws
 pub mod LocatedLaws
 pub mod FoundLaws
 pub mod ManyReads
+pub mod ManyLaws
 pub mod TableCountLaws
 pub mod FrameCountLaws
 pub mod BoundLaws

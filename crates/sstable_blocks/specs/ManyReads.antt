@@ -1,15 +1,20 @@
 -- Reads of many keys of a table, each block read once.
-use Rattle.std.specs.Prelude.{◌≡◌, ℕ, ◌+◌, ◌≤◌, ◌==◌, nat_lt, if◌then◌else◌, List, [], ◌∷◌, map, slice_get, Option, Some, None, IfSome, Result, Ok, Err, Bool, true, false}
+use Rattle.std.specs.Prelude.{◌≡◌, ℕ, ◌+◌, ◌≤◌, ◌==◌, nat_lt, if◌then◌else◌, List, [], ◌∷◌, map, slice_get, Option, Some, None, IfSome, Result, Ok, Err, IfOk, Bool, true, false}
 use Rattle.std.specs.Option.{option_map}
 use Rattle.sst_base.specs.Entry.{Entry}
 use Rattle.sst_block_core.specs.DataBlock.{DataBlockParts}
+use Rattle.sst_block_core.specs.Entries.{entries}
+use Rattle.sst_block_core.specs.Window.{first_match}
 use Rattle.sst_block_core.specs.Handles.{Handle}
 use Rattle.sst_base.specs.Header.{◌>>=◌}
 use Rattle.sst_base.specs.declared.error.Error.{Error}
+use Rattle.sstable_blocks.specs.Blocks.{joined}
 use Rattle.sstable_blocks.specs.Opened.{range_of}
 use Rattle.sstable_blocks.specs.RunReading.{Hashes, block_items_at, read_block, read_checked}
 use Rattle.sstable_blocks.specs.RunPlaces.{IsPlaced, bytes_at, run_in}
+use Rattle.sstable_blocks.specs.Sound.{ForSound}
 use Rattle.sstable_blocks.specs.Tables.{IsOpenedOf, KeptParts, located}
+use Rattle.sstable_blocks.specs.declared.run.RunHandles.{RunHandles}
 use Rattle.sstable_blocks.specs.declared.run.many.Needle.{Needle}
 use Rattle.sstable_blocks.specs.declared.run.place.RunPlace.{RunPlace}
 
@@ -111,3 +116,7 @@ reader_frames hash64 r ns = many_frames (last_index r.last) (map (needle_place h
 -- what a reader gives for a key below a sequence number, by the bytes of the source
 abbrev pub run_answer : Hashes → RunReaderParts → List ℕ → List ℕ → ℕ → Result (Option Entry) Error
 run_answer c r all key seqno = read_checked c (run_in r.place all) r.run.handles key seqno
+
+-- of bytes that are a sound run, a result, seen by `view`, is the first match of each needle
+abbrev pub FindsAll : {X : Type 0} → Hashes → RunHandles → List Needle → (X → List (Option Entry)) → Result X Error → List ℕ → Type 0
+FindsAll c h needles view result bytes = ForSound c bytes h (λ blocks. IfOk result (λ found. view found ≡ map (λ n. first_match entries n.key.now n.seqno (joined blocks)) needles))

@@ -5,6 +5,7 @@ use Rattle.std.specs.Option.{option_map}
 use Rattle.sstable_blocks.specs.Prelude.{Entry, entries, Handle, HandleParts, handles, index_check, IndexVerdict, IndexPasses, IndexPassesBy, IsIndexBlock, IsOrdered, first_match, items_in, trailer_in}
 use Rattle.sstable_blocks.specs.Results.{◌>>=◌, Error}
 use Rattle.sstable_blocks.specs.BlockTypes as types
+use Rattle.sst_parts.specs.CachedParts.{IsOpenIn}
 use Rattle.sst_parts.specs.PartReaders.{FindsAllInParts, IsOpenPart, read_open, read_open_by_top}
 use Rattle.sst_parts.specs.Parts.{IsParted, IsStoredPart, places_in, tops_at}
 use Rattle.sst_parts.proofs.Reading.Openings.{part_ends}
@@ -14,6 +15,7 @@ use Rattle.sstable_blocks.specs.CheckedLaws.{gives_or_later}
 use Rattle.sstable_blocks.specs.Filter.{Filter}
 use Rattle.sstable_blocks.specs.KeptLaws.{kept_is_checked, kept_ok}
 use Rattle.sstable_blocks.specs.Lookup.{IsEnd, first_in, handle_for, place_for}
+use Rattle.sstable_blocks.specs.ManyLaws.{each_found, found_all}
 use Rattle.sstable_blocks.specs.ManyReads.{read_each}
 use Rattle.sstable_blocks.specs.Opened.{index_in, range_of}
 use Rattle.sstable_blocks.specs.OpeningLaws.{frame_range}
@@ -34,15 +36,16 @@ module _ (c : Hashes) (g : HandleParts) where
 
   -- a part was opened
   pub opened : (before after : Option (List ℕ)) (places : RunHandles) (run : KeptParts) → after ≡ before → IsInside g before → IfSome before (λ all. places_in all g ≡ Ok places) → run.handles ≡ places → IsOpenedOf c (in_part after) run
-      → IsOpenPart c before (record { range = g; run = run; last = None })
+      → IsOpenIn c before g run
   opened before after places run same inside at handles kept = record {
+    inside = inside;
     places = subst (λ h. IfSome before (λ all. places_in all g ≡ Ok h)) (sym handles) at;
-    reader = record {
-      placed_in = inside;
-      opened = subst (λ o. IsOpenedOf c (in_part o) run) same kept;
-      last_is = tt;
-    };
+    opened = subst (λ o. IsOpenedOf c (in_part o) run) same kept;
   }
+
+  -- and nothing was read of it
+  pub fresh : (o : Option (List ℕ)) (run : KeptParts) → IsOpenIn c o g run → IsOpenPart c o (record { range = g; run = run; last = None })
+  fresh o run is = record { places = is.places; reader = record { placed_in = is.inside; opened = is.opened; last_is = tt } }
 
   -- the stages of a read
   abbrev by_kept : List ℕ → List ℕ → ℕ → Result (Option (List ℕ) × List Handle) Error → Result (Option Entry) Error
@@ -156,17 +159,6 @@ module _ (c : Hashes) (sums : (xs : List ℕ) → c.hash128 xs < 2 ^ 128)
             ap (λ hs. read_open_by_top c bytes (handle_for handles needle seqno hs) needle seqno) same
             ∙ read_at parts s.tops (place_for handles needle seqno s.tops) s.stored
             ∙ ap (λ o. Ok o) (sym (match needle seqno parts s.tops (part_ends c bytes parts s.tops s.stored) s.ordered))
-
--- reads that each succeed
-each_found : {N : Type 0} (read : N → Result (Option Entry) Error) (found : N → Option Entry) → ((n : N) → read n ≡ Ok (found n)) → (ns : List N) → read_each read ns ≡ Ok (map found ns)
-each_found read found is [] = refl
-each_found read found is (n ∷ ns) =
-    ap (λ (r : Result (Option Entry) Error). r >>= (λ (x : Option Entry). read_each read ns >>= (λ (xs : List (Option Entry)). Ok (x ∷ xs)))) (is n)
-    ∙ ap (λ (r : Result (List (Option Entry)) Error). r >>= (λ (xs : List (Option Entry)). Ok (found n ∷ xs))) (each_found read found is ns)
-
-found_all : {X : Type 0} (P R : Type 0) (view : X → List (Option Entry)) (r : Result X Error) (read : Result (List (Option Entry)) Error) (all : List (Option Entry)) → read ≡ Ok all → GivesOr P R view r read → IfOk r (λ v. view v ≡ all)
-found_all P R view (Ok v) read all is given = let e : ◌≡◌ {A = Result (List (Option Entry)) Error} (Ok all) (Ok (view v)) = sym is ∙ given in cc
-found_all P R view (Err e) read all is given = tt
 
 -- reads of many keys of a parted table find the first match of each
 pub finds_all : {X : Type 0} (c : Hashes) (o : Option (List ℕ)) (P R : Type 0) (view : X → List (Option Entry)) (r : Result X Error) (top : HandleParts) (tops : List Handle) (needles : List Needle)

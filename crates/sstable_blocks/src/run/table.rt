@@ -19,12 +19,14 @@ ghost use Rattle.sstable_blocks.specs.Tables.{kept_of, kept_by_footer, kept_part
 ghost use Rattle.sstable_blocks.specs.Tables.{IsBlockIn, IsOpenedOf, kept_says};
 ghost use Rattle.sstable_blocks.specs.Tables.{LooksBy, error_after, frames_by, source_after};
 ghost use Rattle.sstable_blocks.specs.Lookup.{handle_for};
-ghost use Rattle.sstable_blocks.specs.ManyReads.{many_frames, needle_place, read_each};
+ghost use Rattle.sstable_blocks.specs.ManyReads.{FindsAll, many_frames, needle_place};
+ghost use Rattle.sstable_blocks.specs.ManyReads.{read_each};
 ghost use Rattle.sstable_blocks.specs.Scans.{AtHandle};
 
 use super::RunHandles;
 use super::checking::{RunSummary, check};
 use super::footer::read_table_footer;
+use super::laws::sound_is_read;
 use super::many::{Needle, RunReader, read_many};
 use super::open_run::OpenRun;
 use super::place::RunPlace;
@@ -144,7 +146,10 @@ impl<H: BlockHash, S: FrameSource> Table<H, S> {
         ensures exact { ReadsAs S.bytes S.failures S.is_reliable self.old.source self.new.source
             (λ v. v.items) result (λ all. read_each (λ n. read_checked
             (hashes H.hash64 H.hash128) all self.old.handles n.key.now n.seqno) needles.now) }
+        ensures sound { IfSome (S.bytes self.old.source) (FindsAll (hashes H.hash64 H.hash128)
+            self.old.handles needles.now (λ v. v.items) result) }
     {
+        sound_is_read();
         let mut reader = RunReader::new(&self.run, RunPlace::Whole);
         read_many(alloc, &mut self.source, &mut reader, needles, steps)
     }

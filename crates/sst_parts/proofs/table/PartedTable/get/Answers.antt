@@ -17,7 +17,7 @@ returns-clause-exact g c =
 pub returns-clause-sound : goal.returns-clause-sound
 returns-clause-sound g c =
     let h = hashes g.H.BlockHash.hash64 g.H.BlockHash.hash128 in
-    sound_on h _ _ _ _ c.args.self.now.top c.args.self.now.tops c.args.needle.now c.args.seqno
+    sound_on h _ _ _ _ c.args.self.now.top c.args.self.now.tops c.args.needle.now c.args.seqno (λ all. read_by_top h all (handle_for handles c.args.needle.now c.args.seqno c.args.self.now.tops) c.args.needle.now c.args.seqno)
     (λ all parts sound read. c.parted_is_read.ensures h parts all c.args.self.now.top c.args.self.now.tops c.args.needle.now c.args.seqno g.met.H.BlockHash.hash128_fits sound read)
     (subst (λ w. IfSome (g.S.FrameSource.bytes w.source) (λ all. tops_at h all w.top ≡ Ok w.tops)) c.self.view_is c.self.invariant.0)
     (returns-clause-exact g c)
