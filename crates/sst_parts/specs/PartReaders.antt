@@ -3,7 +3,7 @@ use Rattle.std.specs.Prelude.{◌≡◌, ℕ, ◌+◌, ◌&&◌, nat_eq, if◌th
 use Rattle.std.specs.Option.{option_map}
 use Rattle.sstable_blocks.specs.Prelude.{DataBlockParts, Entry, entries, Handle, HandleParts, handles, first_match}
 use Rattle.sstable_blocks.specs.Results.{◌>>=◌, Error}
-use Rattle.sst_parts.specs.Parts.{IsParted, places_in}
+use Rattle.sst_parts.specs.Parts.{IsParted, by_top, places_in}
 use Rattle.sstable_blocks.specs.Blocks.{joined}
 use Rattle.sstable_blocks.specs.Lookup.{handle_for}
 use Rattle.sstable_blocks.specs.ManyReads.{IsReaderOf}
@@ -21,10 +21,9 @@ read_open c bytes g needle seqno = do
   kept ← kept_of c (part_in bytes g) places
   read_kept c (part_in bytes g) kept.0 kept.1 needle seqno
 
--- the same by the handle of a part, if there is one
+-- the same by the handle of a part
 abbrev pub read_open_by_top : Hashes → List ℕ → Option Handle → List ℕ → ℕ → Result (Option Entry) Error
-read_open_by_top c bytes None needle seqno = Ok None
-read_open_by_top c bytes (Some h) needle seqno = read_open c bytes (range_of h) needle seqno
+read_open_by_top c bytes h needle seqno = by_top (λ g. read_open c bytes g needle seqno) h
 
 -- what contracts see of a part that was opened: its range, what is kept of it, and the block of it that was read last
 pub record OpenPartParts : Type 0 where

@@ -76,10 +76,14 @@ read_part c bytes g needle seqno = do
   places ← places_in bytes g
   read_checked c (part_in bytes g) places needle seqno
 
--- the first match by the handle of a part, if there is one
+-- what a read of a part gives, by the handle of the part, if there is one
+abbrev pub by_top : (HandleParts → Result (Option Entry) Error) → Option Handle → Result (Option Entry) Error
+by_top read None = Ok None
+by_top read (Some h) = read (range_of h)
+
+-- the first match by the handle of a part
 abbrev pub read_by_top : Hashes → List ℕ → Option Handle → List ℕ → ℕ → Result (Option Entry) Error
-read_by_top c bytes None needle seqno = Ok None
-read_by_top c bytes (Some h) needle seqno = read_part c bytes (range_of h) needle seqno
+read_by_top c bytes h needle seqno = by_top (λ g. read_part c bytes g needle seqno) h
 
 -- what contracts see of a parted table: the source, the handle of the index of its parts, the handles of the parts, and
 -- the restart interval of that index

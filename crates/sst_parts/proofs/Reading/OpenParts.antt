@@ -8,8 +8,7 @@ use Rattle.sstable_blocks.specs.BlockTypes as types
 use Rattle.sst_parts.specs.CachedParts.{IsOpenIn}
 use Rattle.sst_parts.specs.PartReaders.{FindsAllInParts, IsOpenPart, read_open, read_open_by_top}
 use Rattle.sst_parts.specs.Parts.{IsParted, IsStoredPart, places_in, tops_at}
-use Rattle.sst_parts.proofs.Reading.Openings.{part_ends}
-use Rattle.sst_parts.proofs.Reading.PartReads.{places_of_table, same_ok, tops_read}
+use Rattle.sst_parts.proofs.Reading.PartReads.{parted_by, places_of_table}
 use Rattle.sstable_blocks.specs.Blocks.{joined}
 use Rattle.sstable_blocks.specs.CheckedLaws.{gives_or_later}
 use Rattle.sstable_blocks.specs.Filter.{Filter}
@@ -132,10 +131,10 @@ module _ (c : Hashes) (sums : (xs : List ℕ) → c.hash128 xs < 2 ^ 128)
             },
           )
 
-    module _ (run_read : (blocks : List (List Entry)) (bytes : List ℕ) (h : RunHandles) (needle : List ℕ) (seqno : ℕ) → IsSound c blocks bytes h → read_checked c bytes h needle seqno ≡ Ok (first_match entries needle seqno (joined blocks)))
-        (match : (needle : List ℕ) (seqno : ℕ) (parts : List (List (List Entry))) (hs : List Handle) → AllZip (λ part h. IsEnd entries handles (joined part) h) parts hs → IsOrdered entries (joined (joined parts))
+    module _ (match : (needle : List ℕ) (seqno : ℕ) (parts : List (List (List Entry))) (hs : List Handle) → AllZip (λ part h. IsEnd entries handles (joined part) h) parts hs → IsOrdered entries (joined (joined parts))
         → first_match entries needle seqno (joined (joined parts)) ≡ first_in entries needle seqno (option_map joined (slice_get parts (place_for handles needle seqno hs))))
         (bytes needle : List ℕ) (seqno : ℕ)
+        (run_read : (blocks : List (List Entry)) (bytes : List ℕ) (h : RunHandles) (needle : List ℕ) (seqno : ℕ) → IsSound c blocks bytes h → read_checked c bytes h needle seqno ≡ Ok (first_match entries needle seqno (joined blocks)))
       where
         read_one : (h : Handle) (part : List (List Entry)) → IsStoredPart c bytes part h → read_open c bytes (range_of h) needle seqno ≡ Ok (first_match entries needle seqno (joined part))
         read_one h part s =
@@ -144,21 +143,10 @@ module _ (c : Hashes) (sums : (xs : List ℕ) → c.hash128 xs < 2 ^ 128)
             (places_of_table bytes (range_of h) s.places s.inside s.footer) k.2
             ∙ run_read part (part_in bytes (range_of h)) s.places needle seqno s.sound
 
-        read_at : (parts : List (List (List Entry))) (hs : List Handle) (n : ℕ) → AllZip (IsStoredPart c bytes) parts hs → read_open_by_top c bytes (slice_get hs n) needle seqno ≡ Ok (first_in entries needle seqno (option_map joined (slice_get parts n)))
-        read_at [] [] n s = refl
-        read_at [] (h ∷ hs) n s = absurd s
-        read_at (b ∷ bs) [] n s = absurd s
-        read_at (b ∷ bs) (h ∷ hs) zero s = read_one h b s.0
-        read_at (b ∷ bs) (h ∷ hs) (suc n) s = read_at bs hs n s.1
-
         -- a read of a part that stays open gives the first match of all parts
         pub open_parted_read : (parts : List (List (List Entry))) (h : HandleParts) (tops : List Handle) → IsParted c parts bytes h → tops_at c bytes h ≡ Ok tops
             → read_open_by_top c bytes (handle_for handles needle seqno tops) needle seqno ≡ Ok (first_match entries needle seqno (joined (joined parts)))
-        open_parted_read parts h tops s read =
-            let same : tops ≡ s.tops = same_ok (tops_at c bytes h) tops s.tops read (tops_read c sums index_verdict index_read bytes s.tops h s.index) in
-            ap (λ hs. read_open_by_top c bytes (handle_for handles needle seqno hs) needle seqno) same
-            ∙ read_at parts s.tops (place_for handles needle seqno s.tops) s.stored
-            ∙ ap (λ o. Ok o) (sym (match needle seqno parts s.tops (part_ends c bytes parts s.tops s.stored) s.ordered))
+        open_parted_read = parted_by c sums index_verdict index_read match bytes needle seqno (λ g. read_open c bytes g needle seqno) read_one
 
 -- reads of many keys of a parted table find the first match of each
 pub finds_all : {X : Type 0} (c : Hashes) (o : Option (List ℕ)) (P R : Type 0) (view : X → List (Option Entry)) (r : Result X Error) (top : HandleParts) (tops : List Handle) (needles : List Needle)

@@ -7,7 +7,7 @@ use Rattle.std.specs.Option.{option_map}
 use Rattle.sstable_blocks.specs.Prelude.{HandleParts, Entry, entries, IsOrdered, items_in, trailer_in, first_match, index_check, IndexVerdict, Handle, handles, IsIndexBlock, IndexPasses, IndexPassesBy}
 use Rattle.sstable_blocks.specs.Results.{◌>>=◌, Error, BadHandle}
 use Rattle.sstable_blocks.specs.BlockTypes as types
-use Rattle.sst_parts.specs.Parts.{IsParted, IsStoredPart, IsStoredTop, places_in, read_by_top, read_part, tops_at, tops_by_footer}
+use Rattle.sst_parts.specs.Parts.{IsParted, IsStoredPart, IsStoredTop, by_top, places_in, read_by_top, read_part, tops_at, tops_by_footer}
 use Rattle.sstable_blocks.specs.RunPlaces.{part_in}
 use Rattle.sst_parts.specs.PartWriting.{IsPartedFile, top_handles}
 use Rattle.sst_parts.proofs.Reading.FileOpenings.{by_handles}
@@ -73,26 +73,32 @@ module _ (c : Hashes) (sums : (xs : List ℕ) → c.hash128 xs < 2 ^ 128)
 module _ (c : Hashes) (sums : (xs : List ℕ) → c.hash128 xs < 2 ^ 128)
     (index_verdict : (p : List ℕ) → IndexVerdict (trailer_in p) p (index_check p))
     (index_read : (r : ℕ) (p : List ℕ) (items : List Handle) → length p < 2 ^ 32 → IsIndexBlock p items r → IndexPasses r p × (items_in handles p ≡ items) × ((trailer_in p).interval ≡ r))
-    (run_read : (blocks : List (List Entry)) (bytes : List ℕ) (h : RunHandles) (needle : List ℕ) (seqno : ℕ) → IsSound c blocks bytes h → read_checked c bytes h needle seqno ≡ Ok (first_match entries needle seqno (joined blocks)))
     (match : (needle : List ℕ) (seqno : ℕ) (parts : List (List (List Entry))) (hs : List Handle) → AllZip (λ part h. IsEnd entries handles (joined part) h) parts hs → IsOrdered entries (joined (joined parts))
     → first_match entries needle seqno (joined (joined parts)) ≡ first_in entries needle seqno (option_map joined (slice_get parts (place_for handles needle seqno hs))))
     (bytes needle : List ℕ) (seqno : ℕ)
   where
-    -- one part
-    read_one : (h : Handle) (part : List (List Entry)) → IsStoredPart c bytes part h → read_part c bytes (range_of h) needle seqno ≡ Ok (first_match entries needle seqno (joined part))
-    read_one h part s = bind_to _ _ s.places _ (places_of_table bytes (range_of h) s.places s.inside s.footer) (run_read part (part_in bytes (range_of h)) s.places needle seqno s.sound)
+    -- where a read of each part gives its first match, one by the index of the parts gives that of all
+    module _ (read : HandleParts → Result (Option Entry) Error) (read_one : (h : Handle) (part : List (List Entry)) → IsStoredPart c bytes part h → read (range_of h) ≡ Ok (first_match entries needle seqno (joined part))) where
+      read_at : (parts : List (List (List Entry))) (hs : List Handle) (n : ℕ) → AllZip (IsStoredPart c bytes) parts hs → by_top read (slice_get hs n) ≡ Ok (first_in entries needle seqno (option_map joined (slice_get parts n)))
+      read_at [] [] n s = refl
+      read_at [] (h ∷ hs) n s = absurd s
+      read_at (b ∷ bs) [] n s = absurd s
+      read_at (b ∷ bs) (h ∷ hs) zero s = read_one h b s.0
+      read_at (b ∷ bs) (h ∷ hs) (suc n) s = read_at bs hs n s.1
 
-    read_at : (parts : List (List (List Entry))) (hs : List Handle) (n : ℕ) → AllZip (IsStoredPart c bytes) parts hs → read_by_top c bytes (slice_get hs n) needle seqno ≡ Ok (first_in entries needle seqno (option_map joined (slice_get parts n)))
-    read_at [] [] n s = refl
-    read_at [] (h ∷ hs) n s = absurd s
-    read_at (b ∷ bs) [] n s = absurd s
-    read_at (b ∷ bs) (h ∷ hs) zero s = read_one h b s.0
-    read_at (b ∷ bs) (h ∷ hs) (suc n) s = read_at bs hs n s.1
+      pub parted_by : (parts : List (List (List Entry))) (h : HandleParts) (tops : List Handle) → IsParted c parts bytes h → tops_at c bytes h ≡ Ok tops
+          → by_top read (handle_for handles needle seqno tops) ≡ Ok (first_match entries needle seqno (joined (joined parts)))
+      parted_by parts h tops s opened =
+          let same : tops ≡ s.tops = same_ok (tops_at c bytes h) tops s.tops opened (tops_read c sums index_verdict index_read bytes s.tops h s.index) in
+          ap (λ hs. by_top read (handle_for handles needle seqno hs)) same
+          ∙ read_at parts s.tops (place_for handles needle seqno s.tops) s.stored
+          ∙ ap (λ o. Ok o) (sym (match needle seqno parts s.tops (part_ends c bytes parts s.tops s.stored) s.ordered))
 
-    pub parted_read : (parts : List (List (List Entry))) (h : HandleParts) (tops : List Handle) → IsParted c parts bytes h → tops_at c bytes h ≡ Ok tops
-        → read_by_top c bytes (handle_for handles needle seqno tops) needle seqno ≡ Ok (first_match entries needle seqno (joined (joined parts)))
-    parted_read parts h tops s read =
-        let same : tops ≡ s.tops = same_ok (tops_at c bytes h) tops s.tops read (tops_read c sums index_verdict index_read bytes s.tops h s.index) in
-        ap (λ hs. read_by_top c bytes (handle_for handles needle seqno hs) needle seqno) same
-        ∙ read_at parts s.tops (place_for handles needle seqno s.tops) s.stored
-        ∙ ap (λ o. Ok o) (sym (match needle seqno parts s.tops (part_ends c bytes parts s.tops s.stored) s.ordered))
+    module _ (run_read : (blocks : List (List Entry)) (bytes : List ℕ) (h : RunHandles) (needle : List ℕ) (seqno : ℕ) → IsSound c blocks bytes h → read_checked c bytes h needle seqno ≡ Ok (first_match entries needle seqno (joined blocks))) where
+      -- one part
+      read_one : (h : Handle) (part : List (List Entry)) → IsStoredPart c bytes part h → read_part c bytes (range_of h) needle seqno ≡ Ok (first_match entries needle seqno (joined part))
+      read_one h part s = bind_to _ _ s.places _ (places_of_table bytes (range_of h) s.places s.inside s.footer) (run_read part (part_in bytes (range_of h)) s.places needle seqno s.sound)
+
+      pub parted_read : (parts : List (List (List Entry))) (h : HandleParts) (tops : List Handle) → IsParted c parts bytes h → tops_at c bytes h ≡ Ok tops
+          → read_by_top c bytes (handle_for handles needle seqno tops) needle seqno ≡ Ok (first_match entries needle seqno (joined (joined parts)))
+      parted_read = parted_by (λ g. read_part c bytes g needle seqno) read_one

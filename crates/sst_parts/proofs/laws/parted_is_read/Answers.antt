@@ -5,6 +5,7 @@ pub returns : goal.returns
 returns c = λ hs parts bytes h tops needle seqno sums s read. parted_read hs sums
     c.index_check_is_by_stages.ensures
     (λ r p items short is. c.index_block_is_read.ensures r p items short is)
-    (λ blocks all places key number sound. c.sound_is_read.ensures hs blocks all places key number sums sound)
     (λ key number ps ends zip ordered. c.first_match_is_in_one_part.ensures key number ps ends zip ordered)
-    bytes needle seqno parts h tops s read
+    bytes needle seqno
+    (λ blocks all places key number sound. c.sound_is_read.ensures hs blocks all places key number sums sound)
+    parts h tops s read
