@@ -30,7 +30,7 @@ module _ (hash64 : List ℕ → ℕ) (filter : Option (List ℕ)) (hs : List Han
   -- as many frames are asked for as there are blocks
   frames_are : (r : Result Bool Error) (x : Option HandleParts) → Ok x ≡ by r → found_item x ≡ frames_by r handle
   frames_are (Ok true) x is = found_some x handle (let k : ◌≡◌ {A = Result (Option HandleParts) Error} (Ok x) (Ok (option_map range_of handle)) = is in cc)
-  frames_are (Ok false) x is = ap found_item (let k : ◌≡◌ {A = Result (Option HandleParts) Error} (Ok x) (Ok None) = is in cc)
+  frames_are (Ok false) x is = (let k : ◌≡◌ {A = Result (Option HandleParts) Error} (Ok x) (Ok None) = is in let none : x ≡ None = cc in ap found_item none)
   frames_are (Err e) x is = absurd (let k : ◌≡◌ {A = Result (Option HandleParts) Error} (Ok x) (Err e) = is in cc)
 
   pub found_frames : (x : Option HandleParts) → Ok x ≡ found_block hash64 filter hs needle seqno → found_item x ≡ frames_by (kept_says hash64 filter needle) handle
@@ -65,7 +65,7 @@ module _ (c : Hashes) (filter : Option (List ℕ)) (hs : List Handle) (needle : 
   found_read None x P R r is given = tt
   found_read (Some all) x P R r is given =
       let k = of_handle (kept_says c.hash64 filter needle) x is in
-      subst (GivesOr P R (λ y. y) r) (sym (k.2.0 all)) (given k.0 k.1)
+      subst (GivesOr P R (λ y. y) r) (sym (k.2 all)) (given k.0 k.1)
 
   -- and what is examined
   pub found_counts : (o : Option (List ℕ)) (interval : ℕ) (x : Option HandleParts) (s t u : Counted) → Ok x ≡ found_block c.hash64 filter hs needle seqno → CountsBetween s t (0, 0) (find_cost interval (length hs))
@@ -73,7 +73,7 @@ module _ (c : Hashes) (filter : Option (List ℕ)) (hs : List Handle) (needle : 
   found_counts None interval x s t u is first second = tt
   found_counts (Some all) interval x s t u is first second =
       let k = of_handle (kept_says c.hash64 filter needle) x is in
-      let few = k.2.1 all in
+      let few = k.3 all in
       let read = second k.0 k.1 in
       record {
         heads_least = omega (arith, first.heads_least, read.heads_least);
@@ -87,7 +87,7 @@ module _ (c : Hashes) (filter : Option (List ℕ)) (hs : List Handle) (needle : 
   none_found None x is none = tt
   none_found (Some all) x is none =
       let k = of_handle (kept_says c.hash64 filter needle) x is in
-      k.2.0 all ∙ no_block k.0 (sym k.1 ∙ none)
+      k.2 all ∙ no_block k.0 (sym k.1 ∙ none)
     where
       no_block : (h : Option Handle) → option_map range_of h ≡ None → read_block c all h needle seqno ≡ Ok None
       no_block None e = refl

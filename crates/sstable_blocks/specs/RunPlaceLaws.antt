@@ -48,24 +48,13 @@ window_refused all g h inside outside =
     let no : nat_le (h.offset + h.size) (length part) ≡ false = grind (arith, nat_tests) in
     ap (λ b. cond b (Ok (take h.size (drop h.offset part))) (Err BadHandle)) no
 
--- where a frame of a part is
-pub frame_inside : (g h : HandleParts) → h.offset + h.size ≤ g.size → Some (record { offset = g.offset + h.offset; size = h.size }) ≡ frame_of (Part g) h
-frame_inside g h within =
-    let yes : nat_le (h.offset + h.size) g.size ≡ true = grind (arith, nat_tests) in
-    sym (ap (λ b. cond b (Some (record { offset = g.offset + h.offset; size = h.size })) None) yes)
-
-pub frame_outside : (g h : HandleParts) → g.size < h.offset + h.size → None ≡ frame_of (Part g) h
-frame_outside g h outside =
-    let no : nat_le (h.offset + h.size) g.size ≡ false = grind (arith, nat_tests) in
-    sym (ap (λ b. cond b (Some (record { offset = g.offset + h.offset; size = h.size })) None) no)
-
 -- a place of which nothing is known but that it ends below 2^64
 pub placed_in_any : (p : RunPlace) (o : Option (List ℕ)) → IsPlaced p o → IsPlaced p None
 placed_in_any Whole o is = tt
 placed_in_any (Part g) o is = (is.0, tt)
 
 module _ (g h : HandleParts) where
-  here : HandleParts
+  abbrev here : HandleParts
   here = record { offset = g.offset + h.offset; size = h.size }
 
   in_part : (f : HandleParts) (b : Bool) → nat_le (h.offset + h.size) g.size ≡ b → frame_of (Part g) h ≡ Some f → (h.offset + h.size ≤ g.size) × (here ≡ f)
@@ -94,12 +83,12 @@ frame_payload_is (Part g) all h f is =
     let k = in_part g h f (nat_le (h.offset + h.size) g.size) refl is in
     elim (cases_Bool (nat_le 33 h.size)) [
       | inl long ↦
-        let few = leb-true 33 h.size long in
-        let at : g.offset + (h.offset + 33) ≡ g.offset + h.offset + 33 = omega arith in
-        part_of_part all g.offset g.size (h.offset + 33) (h.size - 33) (omega (arith, k.0, few)) ∙ ap (λ n. take (h.size - 33) (drop n all)) at ∙ ap (payload_in all) k.1
+          let few = leb-true 33 h.size long in
+          let at : g.offset + (h.offset + 33) ≡ g.offset + h.offset + 33 = omega arith in
+          part_of_part all g.offset g.size (h.offset + 33) (h.size - 33) (omega (arith, k.0, few)) ∙ ap (λ n. take (h.size - 33) (drop n all)) at ∙ ap (payload_in all) k.1
       | inr short ↦
-        let few = leb-false 33 h.size short in
-        no_payload (part_in all g) h few ∙ sym (no_payload all (here g h) few) ∙ ap (payload_in all) k.1
+          let few = leb-false 33 h.size short in
+          no_payload (part_in all g) h few ∙ sym (no_payload all (here g h) few) ∙ ap (payload_in all) k.1
     ]
 
 pub frame_refused_is : (p : RunPlace) (all : List ℕ) (h : HandleParts) → IsPlaced p (Some all) → frame_of p h ≡ None → range_at (run_in p all) h ≡ Err BadHandle

@@ -275,12 +275,7 @@ impl<H: BlockHash> OpenRun<H> {
     /// Returns where the block is that can hold this key below `seqno`, if there is one: none where
     /// the filter rules the key out. No frame is read. What is examined is added to `steps`: at
     /// least a head of the index where the filter allows the key, else nothing.
-    pub fn find_block(
-        &self,
-        needle: &[u8],
-        seqno: SeqNo,
-        steps: &mut Steps,
-    ) -> Option<BlockHandle>
+    pub fn find_block(&self, needle: &[u8], seqno: SeqNo, steps: &mut Steps) -> Option<BlockHandle>
         ensures exact { Ok result
             ≡ found_block H.hash64 self.now.filter self.now.index needle.now seqno }
         ensures counts { CountsBetween steps.old steps.new (0, 0)

@@ -1,4 +1,5 @@
-use Rattle.std.proofs.Common.{arith}
+use Rattle.std.proofs.Common.{ap, arith}
+use Rattle.std.specs.Prelude.{not}
 use Rattle.sstable_blocks.specs.FoundLaws.{found_counts, found_frames, found_looks, found_read, none_counts, none_found}
 use Rattle.sstable_blocks.specs.RunReading.{hashes}
 use Rattle.sstable_blocks.proofs.run.open_run.read_by_kept.Goals as goal
@@ -22,4 +23,4 @@ pub returns-clause-counts : goal.returns-clause-counts
 returns-clause-counts g c = found_counts (hashes g.H.BlockHash.hash64 g.H.BlockHash.hash128) c.args.filter.now c.args.index.now.items c.args.needle.now c.args.seqno _ c.args.index.now.interval _ _ _ _ c.find_by_kept-handle.ensures.exact c.find_by_kept-handle.ensures.counts c.read_in_block.ensures.counts
 
 pub returns-clause-looked : goal.returns-clause-looked
-returns-clause-looked g c = found_looks g.H.BlockHash.hash64 c.args.filter.now c.args.index.now.items c.args.needle.now c.args.seqno _ _ _ _ c.find_by_kept-handle.ensures.exact ? c.find_by_kept-handle.ensures.looked c.read_in_block.ensures.counts_grow
+returns-clause-looked g c = found_looks g.H.BlockHash.hash64 c.args.filter.now c.args.index.now.items c.args.needle.now c.args.seqno _ _ _ _ c.find_by_kept-handle.ensures.exact (ap not (c.if-is_none.ensures)) c.find_by_kept-handle.ensures.looked c.read_in_block.ensures.counts_grow
