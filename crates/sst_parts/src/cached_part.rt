@@ -31,7 +31,7 @@ pub type PartCache<H> = Cache<OpenRun<H>>;
 
 // How many bytes the frame of a filter has, if there is one.
 fn filter_len(filter: &Option<BlockHandle>) -> u64
-    ensures { result ≡ filter_bytes filter.now }
+    ensures value { result ≡ filter_bytes filter.now }
     ensures fits { result < 2 ^ 32 }
 {
     match filter {
