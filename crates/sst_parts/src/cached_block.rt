@@ -17,7 +17,9 @@ ghost use Rattle.sstable_blocks.specs.Tables.{IsOpenedOf, LooksBy, kept_says};
 use crate::cache::{Cache, Cached};
 use sstable_blocks::run::checked::data_block_from;
 use sstable_blocks::run::{FrameSource, OpenRun, RunPlace};
-use sstable_blocks::{BlockHandle, BlockHash, DataBlock, Error, InternalValue, Result, SeqNo, Steps};
+use sstable_blocks::{
+    BlockHandle, BlockHash, DataBlock, Error, InternalValue, Result, SeqNo, Steps,
+};
 use std::alloc::Global;
 
 /// A cache of data blocks that were verified and checked. A block is counted for the bytes of its
@@ -142,9 +144,7 @@ fn read_block_through<H: BlockHash, S: FrameSource>(
 {
     match place.frame(handle) {
         None => Err(Error::BadHandle),
-        Some(range) => read_range(
-            alloc, source, cache, number, &range, needle, seqno, steps,
-        ),
+        Some(range) => read_range(alloc, source, cache, number, &range, needle, seqno, steps),
     }
 }
 

@@ -76,7 +76,13 @@ fn counts_in(
         Ok(table) => wrong_through(alloc, parts, blocks, table)?,
         Err(failed) => return Err(failed.error),
     };
-    Ok((wrong, parts.hits(), parts.misses(), blocks.hits(), blocks.misses()))
+    Ok((
+        wrong,
+        parts.hits(),
+        parts.misses(),
+        blocks.hits(),
+        blocks.misses(),
+    ))
 }
 
 // The same of a table in parts of three blocks, by caches of so many bytes.

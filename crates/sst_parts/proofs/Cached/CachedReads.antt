@@ -106,6 +106,7 @@ module _ (c : Hashes) (needle : List ℕ) (seqno : ℕ) (p : RunPlace) where
     by_handle : (all : List ℕ) → IsPlaced p (Some all) → GivesOr P R (λ x. x) r (first_at c all f needle seqno) → (g : Option Handle) → Some h ≡ option_map range_of g → GivesOr P R (λ x. x) r (read_block c (run_in p all) g needle seqno)
     by_handle all inside given None e = absurd (let k : Some h ≡ None = e in cc)
     by_handle all inside given (Some g) e = subst (GivesOr P R (λ x. x) r) (sym (same_block all h f g inside is (range_is h g e))) given
+
     known : (o : Option (List ℕ)) → IsPlaced p o → IfSome o (λ all. GivesOr P R (λ x. x) r (first_at c all f needle seqno)) → IfSome o (λ all. (g : Option Handle) → Some h ≡ option_map range_of g → GivesOr P R (λ x. x) r (read_block c (run_in p all) g needle seqno))
     known None inside given = tt
     known (Some all) inside given = by_handle all inside given
@@ -116,6 +117,7 @@ module _ (c : Hashes) (needle : List ℕ) (seqno : ℕ) (p : RunPlace) where
     by_handle : (all : List ℕ) → IsPlaced p (Some all) → (g : Option Handle) → Some h ≡ option_map range_of g → FailsAs P R (read_block c (run_in p all) g needle seqno) BadHandle
     by_handle all inside None e = absurd (let k : Some h ≡ None = e in cc)
     by_handle all inside (Some g) e = λ other. inr (items_first c (run_in p all) g needle seqno ∙ ap (λ (k : HandleParts). match_of (range_at (run_in p all) k)) (range_is h g e) ∙ ap match_of (frame_refused_is p all h inside is))
+
     known : (o : Option (List ℕ)) → IsPlaced p o → IfSome o (λ all. (g : Option Handle) → Some h ≡ option_map range_of g → FailsAs P R (read_block c (run_in p all) g needle seqno) BadHandle)
     known None inside = tt
     known (Some all) inside = by_handle all inside
@@ -129,6 +131,7 @@ module _ (c : Hashes) (needle : List ℕ) (seqno : ℕ) (p : RunPlace) where
     by_handle all given (Some g) e =
         let here : payload_in (run_in p all) (range_of g) ≡ payload_in all f = ap (payload_in (run_in p all)) (range_is h g e) ∙ frame_payload_is p all h f is in
         subst (λ q. CountsBetween s t (0, 0) (digits (head_count (trailer_in q).interval (length (items_in entries q))), (trailer_in q).interval + 1)) (sym here) given
+
     known : (o : Option (List ℕ)) → IfSome o (λ all. CountsBetween s t (0, 0) (digits (heads_in all f), entries_in all f)) → IfSome o (λ all. (g : Option Handle) → Some h ≡ option_map range_of g → CountsBetween s t (0, 0) (digits (heads_at (run_in p all) g), entries_at (run_in p all) g))
     known None given = tt
     known (Some all) given = by_handle all given
