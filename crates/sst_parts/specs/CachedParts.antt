@@ -1,5 +1,5 @@
 -- Reads of parted tables through a cache of open parts and one of their blocks.
-use Rattle.std.specs.Prelude.{◌≡◌, ◌⊎◌, ℕ, ◌+◌, List, slice_get, Option, Some, None, IfSome, IsSomeAnd, Result, IsErr}
+use Rattle.std.specs.Prelude.{◌≡◌, ◌⊎◌, ℕ, ◌+◌, List, slice_get, Option, Some, None, IfSome, IsSomeAnd, Result, Ok, IsErr}
 use Rattle.sst_parts.specs.CachedBlocks.{Blocks, ReadsBlock, block_frames, block_of_run}
 use Rattle.sst_parts.specs.Caches.{CacheParts, Keeps, Kept, kept_at, looked_up, place_at}
 use Rattle.sst_parts.specs.Parts.{PartedParts, places_in}

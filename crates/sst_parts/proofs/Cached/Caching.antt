@@ -127,8 +127,8 @@ module _ {V : Type 0} (test : Place → Bool) where
   ]
 
   bytes_moved : (size : V → ℕ) (es : List (Kept V)) (o : Option V) → lookup test es ≡ o → kept_bytes size (promoted test es) ≡ kept_bytes size es
-  bytes_moved size es None at = ap kept_bytes size (promoted_none es at)
-  bytes_moved size es (Some v) at = let e = an_entry es v at in ap kept_bytes size (moved es e.0 v e.1) ∙ bytes_removed size es e.0 v e.1
+  bytes_moved size es None at = ap (kept_bytes size) (promoted_none es at)
+  bytes_moved size es (Some v) at = let e = an_entry es v at in ap (kept_bytes size) (moved es e.0 v e.1) ∙ bytes_removed size es e.0 v e.1
 
   -- the blocks have as many bytes when one was moved
   pub bytes_promoted : (size : V → ℕ) (es : List (Kept V)) → kept_bytes size (promoted test es) ≡ kept_bytes size es
