@@ -1,6 +1,6 @@
 -- Reads of parted tables through a cache of open parts and one of their blocks.
 use Rattle.std.specs.Prelude.{◌≡◌, ◌⊎◌, ℕ, ◌+◌, List, slice_get, Option, Some, None, IfSome, IsSomeAnd, Result, Ok, IsErr}
-use Rattle.sst_parts.specs.CachedBlocks.{Blocks, ReadsBlock, block_frames, block_of_run}
+use Rattle.sst_parts.specs.CachedBlocks.{Blocks, IsAdded, ReadsBlock, block_frames, block_of_run}
 use Rattle.sst_parts.specs.Caches.{CacheParts, Keeps, Kept, kept_at, looked_up, place_at}
 use Rattle.sst_parts.specs.Parts.{PartedParts, places_in}
 use Rattle.sst_parts.specs.declared.cached_part.Numbers.{Numbers}
@@ -49,6 +49,10 @@ cached_frames hash64 parts blocks ns (Some g) needle seqno = frames_of_part hash
 pub record BothCaches : Type 0 where
   pub parts : OpenParts
   pub blocks : Blocks
+
+-- two caches gave a table with this source these numbers
+abbrev pub AreAdded : {S : Type 0} → (S → Option (List ℕ)) → OpenParts → Blocks → Numbers → S → Type 0
+AreAdded bytes parts blocks ns source = IsAdded bytes parts ns.of_parts source × IsAdded bytes blocks ns.of_blocks source
 
 -- after a read of the part in a range, which was not kept: it was opened and kept, and its block was read; where it could not
 -- be opened, nothing changed

@@ -2,7 +2,7 @@
 ghost use Rattle.std.specs.Prelude.{◌≡◌, ◌⊎◌, ◌+◌, ◌-◌, ◌<◌, ◌≤◌, ◌^◌, ℕ, List, None, IfOk, IfSome};
 ghost use Rattle.std.specs.Prelude.{◌++◌, ◌∷◌, [], IfErr, IsErr, IsSome, OnErr, Some, length, slice_get};
 ghost use Rattle.sst_parts.specs.CachedBlocks.{IsAdded};
-ghost use Rattle.sst_parts.specs.CachedParts.{IsOpenIn, LeavesCaches, ReadsNewPart, ReadsPart};
+ghost use Rattle.sst_parts.specs.CachedParts.{AreAdded, IsOpenIn, LeavesCaches, ReadsNewPart, ReadsPart};
 ghost use Rattle.sst_parts.specs.CachedParts.{ReadsPartIn, filter_bytes};
 ghost use Rattle.sst_parts.specs.CachedParts.{cached_frames, frames_of_part, open_bytes, part_for};
 ghost use Rattle.sst_parts.specs.CachedBlocks.{ReadsBlock, block_of_run};
@@ -105,8 +105,7 @@ fn read_kept<H: BlockHash, S: FrameSource>(
     steps: &mut Steps,
 ) -> Result<Option<InternalValue>>
     requires kept { IsSome (kept_at parts.now.kept (place_at numbers.now.of_parts range.now)) }
-    requires part { IsAdded S.bytes parts.now numbers.now.of_parts source.old }
-    requires block { IsAdded S.bytes blocks.old numbers.now.of_blocks source.old }
+    requires added { AreAdded S.bytes parts.now blocks.old numbers.now source.old }
     ensures source { UsesSource S.bytes S.failures S.reads S.is_reliable
         (AsksUpTo (frames_of_part H.hash64 blocks.old.kept numbers.now.of_blocks range.now
         (kept_at parts.now.kept (place_at numbers.now.of_parts range.now)) needle.now seqno))
@@ -151,8 +150,7 @@ fn read_new<H: BlockHash, S: FrameSource>(
 ) -> Result<Option<InternalValue>>
     requires range { range.now.offset + range.now.size < 2 ^ 64 }
     requires absent { kept_at parts.old.kept (place_at numbers.now.of_parts range.now) ≡ None }
-    requires part { IsAdded S.bytes parts.old numbers.now.of_parts source.old }
-    requires block { IsAdded S.bytes blocks.old numbers.now.of_blocks source.old }
+    requires added { AreAdded S.bytes parts.old blocks.old numbers.now source.old }
     ensures source { UsesSource S.bytes S.failures S.reads S.is_reliable
         (AsksUpTo 4) source.old source.new result }
     ensures exact { ReadsAs S.bytes S.failures S.is_reliable source.old source.new (λ x. x) result
@@ -194,8 +192,7 @@ fn read_part_through<H: BlockHash, S: FrameSource>(
     steps: &mut Steps,
 ) -> Result<Option<InternalValue>>
     requires range { range.now.offset + range.now.size < 2 ^ 64 }
-    requires part { IsAdded S.bytes parts.old numbers.now.of_parts source.old }
-    requires block { IsAdded S.bytes blocks.old numbers.now.of_blocks source.old }
+    requires added { AreAdded S.bytes parts.old blocks.old numbers.now source.old }
     ensures source { UsesSource S.bytes S.failures S.reads S.is_reliable
         (AsksUpTo (frames_of_part H.hash64 blocks.old.kept numbers.now.of_blocks range.now
         (kept_at parts.old.kept (place_at numbers.now.of_parts range.now)) needle.now seqno))
@@ -233,8 +230,7 @@ pub(crate) fn get_by_tops<H: BlockHash, S: FrameSource>(
     seqno: SeqNo,
     steps: &mut Steps,
 ) -> Result<Option<InternalValue>>
-    requires part { IsAdded S.bytes parts.old numbers.now.of_parts source.old }
-    requires block { IsAdded S.bytes blocks.old numbers.now.of_blocks source.old }
+    requires added { AreAdded S.bytes parts.old blocks.old numbers.now source.old }
     ensures source { UsesSource S.bytes S.failures S.reads S.is_reliable
         (AsksUpTo (cached_frames H.hash64 parts.old.kept blocks.old.kept numbers.now
         (part_for index.now.items needle.now seqno) needle.now seqno))

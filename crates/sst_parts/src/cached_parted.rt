@@ -1,7 +1,6 @@
 //! Parted tables that are read through a cache of open parts and one of their blocks.
 ghost use Rattle.std.specs.Prelude.{◌≡◌, ◌⊎◌, ◌-◌, ◌<◌, ◌^◌, IfErr, IfOk, IfSome, length};
-ghost use Rattle.sst_parts.specs.CachedBlocks.{IsAdded};
-ghost use Rattle.sst_parts.specs.CachedParts.{LeavesCaches, cached_frames, part_for};
+ghost use Rattle.sst_parts.specs.CachedParts.{AreAdded, LeavesCaches, cached_frames, part_for};
 ghost use Rattle.sst_parts.specs.PartReaders.{read_open_by_top};
 ghost use Rattle.sst_parts.specs.Parts.{FindsInParts, parted_most};
 ghost use Rattle.sstable_blocks.specs.Lookup.{handle_for};
@@ -48,10 +47,8 @@ impl<H: BlockHash, S: FrameSource> CachedParted<H, S> {
         table: PartedTable<H, S>,
     ) -> std::result::Result<CachedParted<H, S>, PartedTable<H, S>>
         ensures table { IfOk result (λ t. t.table ≡ table) }
-        ensures part { IfOk result
-            (λ t. IsAdded S.bytes parts.new t.numbers.of_parts t.table.source) }
-        ensures block { IfOk result
-            (λ t. IsAdded S.bytes blocks.new t.numbers.of_blocks t.table.source) }
+        ensures added { IfOk result
+            (λ t. AreAdded S.bytes parts.new blocks.new t.numbers t.table.source) }
         ensures kept { (parts.new.kept ≡ parts.old.kept) × (blocks.new.kept ≡ blocks.old.kept) }
         ensures returned { IfErr result (λ t. (t ≡ table)
             × ((length parts.old.tables ≡ 2 ^ 64 - 1)
@@ -91,9 +88,7 @@ impl<H: BlockHash, S: FrameSource> CachedParted<H, S> {
         seqno: SeqNo,
         steps: &mut Steps,
     ) -> Result<Option<InternalValue>>
-        requires part { IsAdded S.bytes parts.old self.old.numbers.of_parts
-            self.old.table.source }
-        requires block { IsAdded S.bytes blocks.old self.old.numbers.of_blocks
+        requires { AreAdded S.bytes parts.old blocks.old self.old.numbers
             self.old.table.source }
         ensures kept { self.new ≡ record self.old {
           table = record self.old.table { source = self.new.table.source };

@@ -3,8 +3,7 @@ ghost use Rattle.std.specs.Prelude.{◌≡◌, ◌+◌, ◌<◌, ◌^◌, Ok, If
 ghost use Rattle.std.specs.Prelude.{None, true};
 ghost use Rattle.std.specs.Prelude.{OnOk, length};
 ghost use Rattle.std.specs.Option.{option_map};
-ghost use Rattle.sst_parts.specs.CachedBlocks.{IsAdded};
-ghost use Rattle.sst_parts.specs.CachedParts.{LeavesCaches, cached_frames, part_for};
+ghost use Rattle.sst_parts.specs.CachedParts.{AreAdded, LeavesCaches, cached_frames, part_for};
 ghost use Rattle.sst_parts.specs.PartChecks.{ForParted, IsPartedSummary, check_parted};
 ghost use Rattle.sst_parts.specs.PartChecks.{parts_frames, summary_of_parts};
 ghost use Rattle.sst_parts.specs.PartReaders.{FindsAllInParts, needles_frames};
@@ -225,8 +224,7 @@ impl<H: BlockHash, S: FrameSource> PartedTable<H, S> {
         seqno: SeqNo,
         steps: &mut Steps,
     ) -> Result<Option<InternalValue>>
-        requires part { IsAdded S.bytes parts.old numbers.now.of_parts self.old.source }
-        requires block { IsAdded S.bytes blocks.old numbers.now.of_blocks self.old.source }
+        requires { AreAdded S.bytes parts.old blocks.old numbers.now self.old.source }
         ensures kept { self.new ≡ record self.old { source = self.new.source } }
         ensures source { UsesSource S.bytes S.failures S.reads S.is_reliable
             (AsksUpTo (cached_frames H.hash64 parts.old.kept blocks.old.kept numbers.now

@@ -1,6 +1,6 @@
 // Parted tables that are read through caches, against what their versions are.
 ghost use Rattle.std.specs.Prelude.{OnOk};
-ghost use Rattle.sst_parts.specs.CachedBlocks.{IsAdded};
+ghost use Rattle.sst_parts.specs.CachedParts.{AreAdded};
 
 use crate::Tested;
 use crate::parts::{newest, written};
@@ -18,12 +18,9 @@ fn is_wrong<H: BlockHash, S: FrameSource>(
     key: u8,
     seqno: u64,
 ) -> Result<bool>
-    requires part { IsAdded S.bytes parts.old table.old.numbers.of_parts table.old.table.source }
-    requires block { IsAdded S.bytes blocks.old table.old.numbers.of_blocks table.old.table.source }
-    ensures part { OnOk result
-        (IsAdded S.bytes parts.new table.new.numbers.of_parts table.new.table.source) }
-    ensures block { OnOk result
-        (IsAdded S.bytes blocks.new table.new.numbers.of_blocks table.new.table.source) }
+    requires { AreAdded S.bytes parts.old blocks.old table.old.numbers table.old.table.source }
+    ensures { OnOk result
+        (AreAdded S.bytes parts.new blocks.new table.new.numbers table.new.table.source) }
 {
     let needle = [b'k', key];
     let found = table.get(parts, blocks, alloc, &needle, seqno, &mut Steps::new())?;
@@ -37,8 +34,7 @@ fn count_wrong<H: BlockHash, S: FrameSource>(
     blocks: &mut BlockCache<H>,
     table: &mut CachedParted<H, S>,
 ) -> Result<u64>
-    requires part { IsAdded S.bytes parts.old table.old.numbers.of_parts table.old.table.source }
-    requires block { IsAdded S.bytes blocks.old table.old.numbers.of_blocks table.old.table.source }
+    requires { AreAdded S.bytes parts.old blocks.old table.old.numbers table.old.table.source }
 {
     let mut wrong = 0u64;
     for key in 0u8..13 {
