@@ -1,6 +1,6 @@
 -- Reads of runs through a cache of their blocks.
 use Rattle.std.specs.Prelude.{◌≡◌, ◌⊎◌, ℕ, ◌+◌, List, length, slice_get, Option, Some, None, IfSome, Result, Ok, Err, IsErr}
-use Rattle.sst_parts.specs.Caches.{CacheParts, Kept, KeepsNew, Origin, kept_at, looked_up, place_at}
+use Rattle.sst_parts.specs.Caches.{CacheParts, Kept, KeepsNew, kept_at, looked_up, place_at}
 use Rattle.sstable_blocks.specs.Prelude.{Counted, CountsBetween, DataBlockParts, Entry, HandleParts, digits, entries, first_match, head_count, items_in}
 use Rattle.sstable_blocks.specs.ReadCosts.{CountsGrow, interval_in}
 use Rattle.sstable_blocks.specs.Results.{◌>>=◌, Error}

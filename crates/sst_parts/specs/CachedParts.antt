@@ -11,7 +11,6 @@ use Rattle.sstable_blocks.specs.Results.{Error}
 use Rattle.sstable_blocks.specs.RunPlaces.{IsInside, bytes_at}
 use Rattle.sstable_blocks.specs.RunReading.{Hashes}
 use Rattle.sstable_blocks.specs.Tables.{IsOpenedOf, KeptParts}
-use Rattle.sstable_blocks.specs.declared.run.RunHandles.{RunHandles}
 use Rattle.sstable_blocks.specs.declared.run.place.RunPlace.TheVariants.{Part}
 use Rattle.std.specs.Option.{option_map}
 

@@ -1,10 +1,9 @@
 -- A cache, which tables share: what it keeps of ranges of their sources.
-use Rattle.std.specs.Prelude.{◌≡◌, ◌⊎◌, ℕ, ◌+◌, ◌-◌, ◌%◌, ◌^◌, ◌<◌, ◌≤◌, ◌&&◌, nat_eq, nat_le, if◌then◌else◌, Bool, List, [], ◌∷◌, length, slice_get, Option, Some, None, IsSomeAnd, Result, IsErr}
+use Rattle.std.specs.Prelude.{◌≡◌, ◌⊎◌, ℕ, ◌+◌, ◌-◌, ◌%◌, ◌^◌, ◌<◌, ◌≤◌, ◌&&◌, nat_eq, nat_le, if◌then◌else◌, Bool, List, [], ◌∷◌, length, slice_get, Option, Some, None, IsSomeAnd}
 use Rattle.std.specs.List.{AllByRecursion}
 use Rattle.std.specs.Map.{lookup}
 use Rattle.lru.specs.LruCache.{promoted}
 use Rattle.sstable_blocks.specs.Prelude.{HandleParts}
-use Rattle.sstable_blocks.specs.Results.{Error}
 
 -- what the number of a table stands for: the bytes of its source, if these are known
 abbrev pub Origin : Type 0

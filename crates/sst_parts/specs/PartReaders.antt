@@ -1,5 +1,5 @@
 -- Reads of many keys of a parted table: the part that was read last stays open.
-use Rattle.std.specs.Prelude.{◌≡◌, ℕ, ◌+◌, ◌&&◌, nat_eq, if◌then◌else◌, List, [], ◌∷◌, map, Option, Some, None, IfSome, IfOk, Result, Ok, Err}
+use Rattle.std.specs.Prelude.{◌≡◌, ℕ, ◌+◌, ◌&&◌, nat_eq, if◌then◌else◌, List, [], ◌∷◌, map, Option, Some, None, IfSome, IfOk, Result, Ok}
 use Rattle.std.specs.Option.{option_map}
 use Rattle.sstable_blocks.specs.Prelude.{DataBlockParts, Entry, entries, Handle, HandleParts, handles, first_match}
 use Rattle.sstable_blocks.specs.Results.{◌>>=◌, Error}

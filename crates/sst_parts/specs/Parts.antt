@@ -1,7 +1,6 @@
 -- Parted tables: table files one after the other, an index over them, and reading them.
-use Rattle.std.specs.Prelude.{◌≡◌, ℕ, ◌+◌, ◌-◌, ◌*◌, ◌<◌, ◌≤◌, ◌^◌, nat_lt, if◌then◌else◌, List, length, take, drop, Option, Some, None, IfSome, Result, Ok, Err, IfOk}
+use Rattle.std.specs.Prelude.{◌≡◌, ℕ, ◌+◌, ◌-◌, ◌*◌, ◌≤◌, nat_lt, if◌then◌else◌, List, length, Option, Some, None, Result, Ok, Err, IfOk}
 use Rattle.std.specs.List.{AllZip}
-use Rattle.std.specs.Option.{option_map}
 use Rattle.sstable_blocks.specs.Prelude.{HandleParts, found_item, Entry, index_check, entries, Handle, handles, IsIndexBlock, IsOrdered, first_match}
 use Rattle.sstable_blocks.specs.Results.{◌>>=◌, Error, Truncated}
 use Rattle.sstable_blocks.specs.BlockTypes as types

@@ -1,5 +1,5 @@
 -- A read of a run, of which a block that is kept is not read again.
-use Rattle.std.proofs.Common.{◌≡◌, ℕ, ◌+◌, ◌<◌, ◌≤◌, List, length, refl, arith, sym, ◌∙◌, ap, subst, inl, inr, Option, Some, None, IfSome, IsSomeAnd, IfOk, Result, Ok, Err}
+use Rattle.std.proofs.Common.{◌≡◌, ℕ, ◌+◌, List, length, arith, sym, ◌∙◌, ap, subst, inl, inr, Option, Some, None, IfSome, IsSomeAnd, IfOk, Result, Ok, Err}
 use Rattle.std.specs.Option.{option_map}
 use Rattle.std.specs.Prelude.{IsOkUnless}
 use Rattle.sstable_blocks.specs.Prelude.{Counted, CountsBetween, Entry, DataBlockParts, HandleParts, data_check, entries, Handle, digits, head_count, first_match, items_in, payload_of_type, trailer_in}

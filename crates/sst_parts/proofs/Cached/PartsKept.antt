@@ -1,5 +1,5 @@
 -- A read of a parted table, of which a part that is kept is not opened again.
-use Rattle.std.proofs.Common.{◌≡◌, ℕ, ◌+◌, ◌<◌, ◌≤◌, Bool, true, false, List, refl, arith, sym, ◌∙◌, ap, subst, Option, Some, None, IfSome, IsSomeAnd, Result, Ok, Err}
+use Rattle.std.proofs.Common.{◌≡◌, ℕ, ◌≤◌, Bool, true, false, List, arith, sym, subst, Option, Some, None, IfSome, IsSomeAnd, Result, Ok, Err}
 use Rattle.std.specs.List.{slice_get}
 use Rattle.sstable_blocks.specs.Prelude.{Counted, CountsBetween, Entry, HandleParts}
 use Rattle.sstable_blocks.specs.Results.{Error}

@@ -1,5 +1,5 @@
 -- Reads of a part that stays open.
-use Rattle.std.proofs.Common.{◌≡◌, ℕ, zero, suc, ◌<◌, ◌≤◌, ◌^◌, List, [], ◌∷◌, length, map, refl, arith, sym, ◌∙◌, ap, subst, inl, inr, Option, Some, None, IfSome, IfOk, Result, Ok, Err}
+use Rattle.std.proofs.Common.{◌≡◌, ℕ, ◌<◌, ◌^◌, List, length, refl, arith, sym, ◌∙◌, ap, subst, inl, inr, Option, Some, None, IfSome, Result, Ok}
 use Rattle.std.specs.List.{AllZip, slice_get}
 use Rattle.std.specs.Option.{option_map}
 use Rattle.sstable_blocks.specs.Prelude.{Entry, entries, Handle, HandleParts, handles, index_check, IndexVerdict, IndexPasses, IndexPassesBy, IsIndexBlock, IsOrdered, first_match, items_in, trailer_in}

@@ -1,4 +1,4 @@
-use Rattle.std.proofs.Common.{ℕ, length, arith, ◌∙◌, ap}
+use Rattle.std.proofs.Common.{arith, ◌∙◌, ap}
 use Rattle.lru.specs.LruCache.{LruCache}
 use Rattle.sst_parts.specs.Caches.{Place, fitting, kept_bytes}
 use Rattle.sst_parts.proofs.Cached.Caching.{fitting_out, last_out, none_last}

@@ -1,7 +1,6 @@
 use Rattle.std.proofs.Common.{ℕ, sym, ◌∙◌, ap, Ok, Some, None}
-use Rattle.sstable_blocks.specs.FoundLaws.{found_counts, found_looks, found_read, none_counts, none_found}
+use Rattle.sstable_blocks.specs.FoundLaws.{found_read, none_found}
 use Rattle.sstable_blocks.specs.KeptLaws.{checked_on}
-use Rattle.sstable_blocks.specs.TableCountLaws.{kept_counts}
 use Rattle.sstable_blocks.specs.RunReading.{hashes}
 use Rattle.sst_parts.proofs.cached_block.get_through.Goals as goal
 

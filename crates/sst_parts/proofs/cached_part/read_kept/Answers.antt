@@ -1,4 +1,3 @@
-use Rattle.std.proofs.Common.{sym, subst, IfSome, Some}
 use Rattle.sst_parts.proofs.Cached.PartsKept.{kept_open}
 use Rattle.sstable_blocks.specs.RunReading.{hashes}
 use Rattle.sst_parts.proofs.cached_part.read_kept.Goals as goal

@@ -1,6 +1,6 @@
 use Rattle.std.proofs.Common.{arith}
 use Rattle.std.proofs.lemmas.Result.{err_from_is_err_and}
-use Rattle.sst_parts.proofs.Cached.PartsKept.{few_frames, no_counts, of_needle, read_later}
+use Rattle.sst_parts.proofs.Cached.PartsKept.{no_counts, of_needle, read_later}
 use Rattle.sstable_blocks.specs.RunReading.{hashes}
 use Rattle.sst_parts.proofs.cached_part.read_new.Goals as goal
 

@@ -1,4 +1,3 @@
-use Rattle.std.proofs.Common.{arith}
 use Rattle.sst_parts.proofs.Cached.PartsKept.{looks_grow, part_counts}
 use Rattle.sst_parts.proofs.Reading.OpenParts.{open_read}
 use Rattle.sstable_blocks.specs.RunReading.{hashes}
