@@ -15,18 +15,6 @@ use Rattle.sstable_blocks.specs.Tables.{kept_of}
 use Rattle.sstable_blocks.specs.declared.run.RunHandles.{RunHandles}
 use Rattle.sstable_blocks.specs.declared.run.table.OpenError.{OpenError}
 
--- a byte that has no type is no failure of the source
-else_not_io : (b : Bool) (x : BlockType) (r : Result BlockType Error) → IfErr r (λ e. e ≢ Io) → IfErr (if b then Ok x else r) (λ e. e ≢ Io)
-else_not_io true x r h = tt
-else_not_io false x r h = h
-
-type_not_io : (n : ℕ) → IfErr (block_type_of n) (λ e. e ≢ Io)
-type_not_io n = else_not_io (nat_eq n 0) Data _ (else_not_io (nat_eq n 1) Index _ (else_not_io (nat_eq n 2) Filter _ (else_not_io (nat_eq n 3) Meta _ (λ e. cc))))
-
-pub typed_not_io : (F : Type 0) (n : ℕ) (r : Result BlockType Error) → r ≡ block_type_of n → IfErr r (λ e. e ≡ Io → F)
-typed_not_io F n (Ok t) is = tt
-typed_not_io F n (Err e) is = λ io. absurd (subst (λ (r : Result BlockType Error). IfErr r (λ d. d ≢ Io)) (sym is) (type_not_io n) io)
-
 -- the type of the byte in a header that was read
 pub typed : (F R : Type 0) (h : HandleParts) (header : List ℕ) (o : Option (List ℕ)) (r : Result BlockType Error) → IfSome o (λ all. range_at all (header_place h) ≡ Ok header) → r ≡ block_type_of (slice_index header 4)
     → IfSome o (λ all. GivesOr F R (λ t. t) r (type_at all h))
@@ -34,16 +22,7 @@ typed F R h header None r found is = tt
 typed F R h header (Some all) (Ok t) found is = ap (λ x. x >>= (λ bytes. block_type_of (slice_index bytes 4))) found ∙ sym is
 typed F R h header (Some all) (Err e) found is = λ other. inr (ap (λ x. x >>= (λ bytes. block_type_of (slice_index bytes 4))) found ∙ sym is)
 
--- what is kept of a table that was opened
 module _ (c : Hashes) where
-  pub opens_plain : (h h' : RunHandles) (filter : Option (List ℕ)) (index : List Handle) (o : Option (List ℕ)) → h' ≡ h → IfSome o (λ all. kept_of c all h ≡ Ok (filter, index)) → IfSome o (λ all. plain_by c all h ≡ Ok (plain (h', filter, index)))
-  opens_plain h h' filter index None same kept = tt
-  opens_plain h h' filter index (Some all) same kept = ap (λ r. r >>= (λ (k : Option (List ℕ) × List Handle). Ok (plain (h, k.0, k.1)))) kept ∙ ap (λ k. Ok (plain (k, filter, index))) (sym same)
-
-  pub opens_parted : (top top' : HandleParts) (tops : List Handle) (o : Option (List ℕ)) → top' ≡ top → IfSome o (λ all. tops_at c all top ≡ Ok tops) → IfSome o (λ all. parted_by c all top ≡ Ok (parted (top', tops)))
-  opens_parted top top' tops None same kept = tt
-  opens_parted top top' tops (Some all) same kept = ap (λ r. r >>= (λ (k : List Handle). Ok (parted (top, k)))) kept ∙ ap (λ k. Ok (parted (k, tops))) (sym same)
-
   -- of any other type than `Meta` a table is plain
   is_plain : (t : BlockType) → t ≢ Meta → (all : List ℕ) (h : RunHandles) → plain_by c all h ≡ any_by_type c all h t
   is_plain Data other all h = refl
