@@ -1,20 +1,23 @@
 -- Tables of either kind: what is kept of a file, and what is read of it.
-use Rattle.std.specs.Prelude.{◌≡◌, ℕ, ◌+◌, ◌<◌, List, map, Option, None, Result, Ok, Err}
-use Rattle.sstable_blocks.specs.Prelude.{HandleParts, Counted, CountsBetween, Entry, Handle, handles}
-use Rattle.sstable_blocks.specs.Results.{Error, InvalidTag}
+use Rattle.std.specs.Prelude.{◌≡◌, ℕ, ◌+◌, ◌<◌, List, map, slice_index, Option, None, IfSome, Result, Ok, Err, MatchResult}
+use Rattle.sstable_blocks.specs.Prelude.{HandleParts, Counted, CountsBetween, Entry, Handle, block_type_of, handles}
+use Rattle.sstable_blocks.specs.BlockTypes.{BlockType, Meta}
+use Rattle.sstable_blocks.specs.Results.{◌>>=◌, Error}
 use Rattle.sst_parts.specs.PartReaders.{needles_frames, read_open_by_top}
-use Rattle.sst_parts.specs.Parts.{FindsInParts, IsParted, parted_frames, parted_most, read_by_top, tops_by_footer, tops_frames}
+use Rattle.sst_parts.specs.Parts.{FindsInParts, IsParted, parted_frames, parted_most, read_by_top, tops_at}
 use Rattle.sst_parts.specs.declared.any_table.AnyTable.{AnyTable}
 use Rattle.sst_parts.specs.declared.any_table.AnyTable.TheVariants.{Plain, Parted}
 use Rattle.sstable_blocks.specs.Blocks.{joined}
-use Rattle.sstable_blocks.specs.FrameCounts.{file_frames}
+use Rattle.sstable_blocks.specs.Footer.{table_handles}
+use Rattle.sstable_blocks.specs.FrameCounts.{open_frames}
 use Rattle.sstable_blocks.specs.Lookup.{handle_for}
 use Rattle.sstable_blocks.specs.ManyReads.{many_frames, needle_place}
 use Rattle.sstable_blocks.specs.ReadCosts.{CountsRead}
-use Rattle.sstable_blocks.specs.RunReading.{Hashes, read_checked}
+use Rattle.sstable_blocks.specs.RunReading.{Hashes, range_at, read_checked}
 use Rattle.sstable_blocks.specs.Sound.{FindsFirst, IsSound}
-use Rattle.sstable_blocks.specs.Sources.{AsksExactly, AsksUpTo}
-use Rattle.sstable_blocks.specs.Tables.{LooksBy, frames_by, kept_by_footer, kept_parts, kept_says}
+use Rattle.sstable_blocks.specs.Sources.{AsksExactly, AsksUpTo, FailsAs}
+use Rattle.sstable_blocks.specs.Tables.{LooksBy, frames_by, kept_of, kept_parts, kept_says}
+use Rattle.sstable_blocks.specs.Walks.{frames_after}
 use Rattle.sstable_blocks.specs.declared.run.RunHandles.{RunHandles}
 use Rattle.sstable_blocks.specs.declared.run.many.Needle.{Needle}
 use Rattle.sstable_blocks.specs.declared.run.table.OpenError.{OpenError}
@@ -25,27 +28,52 @@ pub data AnyKept : Type 0 where
   plain : RunHandles × Option (List ℕ) × List Handle → AnyKept
   parted : HandleParts × List Handle → AnyKept
 
--- a file that is refused as a plain table by the type of a frame is opened as a parted one
-abbrev pub or_parted : Result (RunHandles × Option (List ℕ) × List Handle) Error → Result (HandleParts × List Handle) Error → Result AnyKept Error
-or_parted (Ok kept) tops = Ok (plain kept)
-or_parted (Err (InvalidTag name tag)) (Ok tops) = Ok (parted tops)
-or_parted (Err (InvalidTag name tag)) (Err e) = Err e
-or_parted (Err e) tops = Err e
+-- where the header of the frame in the range of a handle is: its first 33 bytes
+abbrev pub header_place : HandleParts → HandleParts
+header_place h = record { offset = h.offset; size = 33 }
 
--- what is kept of a table file, by its footer
+-- the type of the frame in the range of a handle, by the byte in its header
+abbrev pub type_at : List ℕ → HandleParts → Result BlockType Error
+type_at bytes h = do
+  header ← range_at bytes (header_place h)
+  block_type_of (slice_index header 4)
+
+-- what is kept of a plain table by its handles, and of a parted one by that of its index
+abbrev pub plain_by : Hashes → List ℕ → RunHandles → Result AnyKept Error
+plain_by c bytes h = do
+  kept ← kept_of c bytes h
+  Ok (plain (h, kept.0, kept.1))
+
+abbrev pub parted_by : Hashes → List ℕ → HandleParts → Result AnyKept Error
+parted_by c bytes top = do
+  tops ← tops_at c bytes top
+  Ok (parted (top, tops))
+
+-- a table whose index is in a frame of type `Meta` is parted, any other plain
+abbrev pub any_by_type : Hashes → List ℕ → RunHandles → BlockType → Result AnyKept Error
+any_by_type c bytes h Meta = parted_by c bytes h.index
+any_by_type c bytes h t = plain_by c bytes h
+
+-- what is kept of a table, by the type of the frame of its index
+abbrev pub any_by_handles : Hashes → List ℕ → RunHandles → Result AnyKept Error
+any_by_handles c bytes h = type_at bytes h.index >>= any_by_type c bytes h
+
+-- what is kept of a table file, by the type of the frame that its footer names as index
 abbrev pub any_by_footer : Hashes → List ℕ → Result AnyKept Error
-any_by_footer c bytes = or_parted (kept_by_footer c bytes) (tops_by_footer c bytes)
+any_by_footer c bytes = table_handles bytes >>= any_by_handles c bytes
 
--- so many frames more, where a file is refused as a plain table by the type of a frame
-abbrev pub frames_more : Result (RunHandles × Option (List ℕ) × List Handle) Error → ℕ → ℕ
-frames_more (Ok kept) n = 0
-frames_more (Err (InvalidTag name tag)) n = n
-frames_more (Err e) n = 0
+-- the frames that are asked for to open a table whose index is of a type: the index of a parted one, or those of a plain one
+abbrev pub type_frames : Hashes → List ℕ → RunHandles → BlockType → ℕ
+type_frames c bytes h Meta = 1
+type_frames c bytes h t = open_frames c bytes h
 
--- the frames that are asked for to open a table file of either kind: those of a plain one, then, where it is refused so, those
--- of a parted one
+-- and to open one by its handles: the header of the frame of its index before these
+abbrev pub handles_frames : Hashes → List ℕ → RunHandles → ℕ
+handles_frames c bytes h = 1 + frames_after (type_at bytes h.index) (type_frames c bytes h)
+
+-- and to open a table file: its footer before these
 abbrev pub any_frames : Hashes → List ℕ → ℕ
-any_frames c bytes = file_frames c bytes + frames_more (kept_by_footer c bytes) (tops_frames bytes)
+any_frames c bytes = 1 + frames_after (table_handles bytes) (handles_frames c bytes)
 
 abbrev pub kept_in : {H S : Type 0} → AnyTable H S → AnyKept
 kept_in (Plain t) = plain (t.handles, t.filter, t.index)
@@ -74,6 +102,11 @@ abbrev pub any_error_after : {H S : Type 0} → Result (AnyTable H S) (OpenError
 any_error_after (Ok t) = Ok t
 any_error_after (Err e) = Err e.error
 
+-- where the bytes of a source are known, a table is opened exactly as this is read of them, unless an allocation or the source
+-- failed
+abbrev pub OpensAs : {H S : Type 0} → (S → Option (List ℕ)) → (S → ℕ) → (S → Type 0) → S → Result (AnyTable H S) (OpenError S) → (List ℕ → Result AnyKept Error) → Type 0
+OpensAs bytes failures is_reliable source result read = IfSome (bytes source) (λ all. MatchResult result (λ t. read all ≡ Ok (kept_in t)) (λ e. FailsAs (failures source < failures e.source) (is_reliable source) (read all) e.error))
+
 -- the first match of a table, as a checked read of it finds it
 abbrev pub read_any : {H S : Type 0} → Hashes → List ℕ → AnyTable H S → List ℕ → ℕ → Result (Option Entry) Error
 read_any c bytes (Plain t) needle seqno = read_checked c bytes t.handles needle seqno
@@ -98,16 +131,6 @@ FindsInAny c (Parted t) needle seqno result = FindsInParts c t.top needle seqno 
 abbrev pub HasEntries : {H S : Type 0} → Hashes → AnyTable H S → List ℕ → List Entry → Type 0
 HasEntries c (Plain t) bytes items = (blocks : List (List Entry)) × IsSound c blocks bytes t.handles × (items ≡ joined blocks)
 HasEntries c (Parted t) bytes items = (parts : List (List (List Entry))) × IsParted c parts bytes t.top × (items ≡ joined (joined parts))
-
--- an error is that of a frame of another type
-abbrev pub IsOtherType : Error → Type 0
-IsOtherType (InvalidTag name tag) = Unit {0}
-IsOtherType e = ⊥
-
--- a parted table, of which this is kept
-abbrev pub IsPartedOf : {H S : Type 0} → Result (HandleParts × List Handle) Error → AnyTable H S → Type 0
-IsPartedOf kept (Plain t) = ⊥
-IsPartedOf kept (Parted t) = kept ≡ Ok (t.top, t.tops)
 
 -- what a read of a table examines
 abbrev pub CountsAny : {H S : Type 0} → List ℕ → AnyTable H S → List ℕ → ℕ → Counted → Counted → Type 0

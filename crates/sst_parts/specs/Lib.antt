@@ -12,3 +12,6 @@ pub mod PartKinds
 pub mod PartChecks
 pub mod PartFinds
 pub mod RefScans
+
+pub mod StoredParts
+pub mod StoredLaws

@@ -1,20 +1,28 @@
 //! Tables of either kind in a file.
-ghost use Rattle.std.specs.Prelude.{◌≡◌, ◌<◌, ◌↔◌, Ok, IfSome, IsTrue, MatchResult, true};
-ghost use Rattle.sst_parts.specs.AnyTables.{AsksOfAny, CountsAny, FindsInAny, IsOtherType};
-ghost use Rattle.sst_parts.specs.AnyTables.{IsPartedOf, LooksInAny, any_by_footer, any_error_after};
-ghost use Rattle.sst_parts.specs.AnyTables.{any_frames, any_source_after, index_of, kept_in};
-ghost use Rattle.sst_parts.specs.AnyTables.{needles_frames_of_any, read_any, read_open_any};
-ghost use Rattle.sst_parts.specs.AnyTables.{source_in, with_source};
-ghost use Rattle.sst_parts.specs.Parts.{tops_by_footer, tops_frames};
+ghost use Rattle.std.specs.Prelude.{◌≡◌, IfSome, true};
+ghost use Rattle.sst_parts.specs.AnyTables.{AsksOfAny, CountsAny, FindsInAny, LooksInAny, OpensAs};
+ghost use Rattle.sst_parts.specs.AnyTables.{any_by_footer, any_by_handles, any_by_type};
+ghost use Rattle.sst_parts.specs.AnyTables.{any_error_after, any_frames, any_source_after};
+ghost use Rattle.sst_parts.specs.AnyTables.{handles_frames, index_of, needles_frames_of_any};
+ghost use Rattle.sst_parts.specs.AnyTables.{parted_by, plain_by, read_any, read_open_any};
+ghost use Rattle.sst_parts.specs.AnyTables.{source_in, type_at, type_frames, with_source};
+ghost use Rattle.sstable_blocks.specs.FrameCounts.{open_frames};
 ghost use Rattle.sstable_blocks.specs.ManyReads.{read_each};
 ghost use Rattle.sstable_blocks.specs.RunReading.{hashes};
-ghost use Rattle.sstable_blocks.specs.Sources.{AsksAny, AsksAs, AsksUpTo, FailsAs};
-ghost use Rattle.sstable_blocks.specs.Sources.{ReadsAs, UsesSource};
+ghost use Rattle.sstable_blocks.specs.Sources.{AsksAny, AsksAs, AsksExactly, AsksUpTo, ReadsAs};
+ghost use Rattle.sstable_blocks.specs.Sources.{UsesSource};
 
 use crate::table::PartedTable;
-use sstable_blocks::run::{FrameSource, OpenError, SizedSource, Table};
-use sstable_blocks::{BlockHash, Error, IndexBlock, InternalValue, Needle, Result, SeqNo, Steps};
+use sstable_blocks::run::footer::read_table_footer;
+use sstable_blocks::run::{FrameSource, OpenError, RunHandles, SizedSource, Table};
+use sstable_blocks::table::block::header::HEADER_LEN;
+use sstable_blocks::{
+    BlockHandle, BlockHash, BlockType, IndexBlock, InternalValue, Needle, Result, SeqNo, Steps,
+};
 use std::alloc::Global;
+
+// Where the byte of the type is in a header: see the table at `Header`.
+const TYPE_AT: usize = 4;
 
 /// A table in a source: plain, or parted.
 #[derive(Drop)]
@@ -25,64 +33,137 @@ pub enum AnyTable<H: BlockHash, S: FrameSource> {
     Parted(PartedTable<H, S>),
 }
 
-// Whether a frame is refused since it is of another type.
-fn is_other_type(error: &Error) -> bool
-    ensures { IsTrue result ↔ IsOtherType error.now }
+/// Reads the type of the frame that a handle names, from the header of that frame. Nothing is
+/// verified.
+///
+/// # Errors
+///
+/// Those of `FrameSource::read_frame` for the 33 bytes of the header, then `Error::InvalidTag` if
+/// the byte of the type has no type.
+pub fn type_from<S: FrameSource>(
+    alloc: Global,
+    source: &mut S,
+    handle: &BlockHandle,
+) -> Result<BlockType>
+    ensures source { UsesSource S.bytes S.failures S.reads S.is_reliable
+        (AsksExactly 1) source.old source.new result }
+    ensures exact { ReadsAs S.bytes S.failures S.is_reliable source.old source.new (λ t. t) result
+        (λ all. type_at all handle.now) }
 {
-    match error {
-        Error::InvalidTag(_, _) => true,
-        _ => false,
-    }
+    let place = BlockHandle::new(handle.offset(), HEADER_LEN as u32);
+    let header = source.read_frame(alloc, &place)?;
+    BlockType::try_from(header.as_slice()[TYPE_AT])
 }
 
-// Opens a file as a parted table.
-fn open_parted<H: BlockHash, S: SizedSource>(
+// Opens a plain table.
+fn open_plain<H: BlockHash, S: FrameSource>(
     alloc: Global,
     source: S,
+    handles: RunHandles,
 ) -> std::result::Result<AnyTable<H, S>, OpenError<S>>
     ensures source { UsesSource S.bytes S.failures S.reads S.is_reliable AsksAny
         source (any_source_after result) (any_error_after result) }
     ensures asked { AsksAs S.bytes S.failures S.reads source (any_source_after result)
-        (any_error_after result) (λ all. tops_frames all) }
-    ensures exact { IfSome (S.bytes source) (λ all. MatchResult result
-        (λ t. IsPartedOf (tops_by_footer (hashes H.hash64 H.hash128) all) t)
-        (λ e. FailsAs (S.failures source < S.failures e.source) (S.is_reliable source)
-        (tops_by_footer (hashes H.hash64 H.hash128) all) e.error)) }
+        (any_error_after result) (λ all. open_frames (hashes H.hash64 H.hash128) all handles) }
+    ensures exact { OpensAs S.bytes S.failures S.is_reliable source result
+        (λ all. plain_by (hashes H.hash64 H.hash128) all handles) }
 {
-    match PartedTable::open_file(alloc, source) {
+    match Table::open(alloc, source, handles) {
+        Ok(table) => Ok(AnyTable::Plain(table)),
+        Err(failed) => Err(failed),
+    }
+}
+
+// Opens a parted table.
+fn open_parted<H: BlockHash, S: FrameSource>(
+    alloc: Global,
+    source: S,
+    top: BlockHandle,
+) -> std::result::Result<AnyTable<H, S>, OpenError<S>>
+    ensures source { UsesSource S.bytes S.failures S.reads S.is_reliable AsksAny
+        source (any_source_after result) (any_error_after result) }
+    ensures asked { AsksAs S.bytes S.failures S.reads source (any_source_after result)
+        (any_error_after result) (λ _. 1) }
+    ensures exact { OpensAs S.bytes S.failures S.is_reliable source result
+        (λ all. parted_by (hashes H.hash64 H.hash128) all top) }
+{
+    match PartedTable::open(alloc, source, top) {
         Ok(table) => Ok(AnyTable::Parted(table)),
         Err(failed) => Err(failed),
     }
 }
 
-impl<H: BlockHash, S: SizedSource> AnyTable<H, S> {
-    /// Opens a table file, which by the type of the frame that its footer names is plain or parted:
-    /// as [`Table::open_file`] does, or, where that refuses the type of a frame, as
-    /// [`PartedTable::open_file`] does.
+// Opens a table whose index is in a frame of this type.
+fn open_by_type<H: BlockHash, S: FrameSource>(
+    alloc: Global,
+    source: S,
+    handles: RunHandles,
+    block_type: BlockType,
+) -> std::result::Result<AnyTable<H, S>, OpenError<S>>
+    ensures source { UsesSource S.bytes S.failures S.reads S.is_reliable AsksAny
+        source (any_source_after result) (any_error_after result) }
+    ensures asked { AsksAs S.bytes S.failures S.reads source (any_source_after result)
+        (any_error_after result)
+        (λ all. type_frames (hashes H.hash64 H.hash128) all handles block_type) }
+    ensures exact { OpensAs S.bytes S.failures S.is_reliable source result
+        (λ all. any_by_type (hashes H.hash64 H.hash128) all handles block_type) }
+{
+    match block_type {
+        BlockType::Meta => open_parted(alloc, source, handles.index),
+        _ => open_plain(alloc, source, handles),
+    }
+}
+
+impl<H: BlockHash, S: FrameSource> AnyTable<H, S> {
+    /// Opens a table in a source, by the type of the frame of its index: where that is `Meta`, as
+    /// [`PartedTable::open`] does, else as [`Table::open`] does. Of that frame the header is read
+    /// first.
     ///
     /// # Errors
     ///
-    /// Those of [`Table::open_file`], and where that is `Error::InvalidTag`, those of
-    /// [`PartedTable::open_file`] in its place. The source is returned with the error.
+    /// Those of [`type_from`] for the frame of the index, then those of [`PartedTable::open`] or
+    /// [`Table::open`]. The source is returned with the error.
+    pub fn open(
+        alloc: Global,
+        source: S,
+        handles: RunHandles,
+    ) -> std::result::Result<AnyTable<H, S>, OpenError<S>>
+        ensures source { UsesSource S.bytes S.failures S.reads S.is_reliable AsksAny
+            source (any_source_after result) (any_error_after result) }
+        ensures asked { AsksAs S.bytes S.failures S.reads source (any_source_after result)
+            (any_error_after result)
+            (λ all. handles_frames (hashes H.hash64 H.hash128) all handles) }
+        ensures exact { OpensAs S.bytes S.failures S.is_reliable source result
+            (λ all. any_by_handles (hashes H.hash64 H.hash128) all handles) }
+    {
+        let mut source = source;
+        match type_from(alloc, &mut source, &handles.index) {
+            Ok(block_type) => open_by_type(alloc, source, handles, block_type),
+            Err(error) => Err(OpenError { error, source }),
+        }
+    }
+}
+
+impl<H: BlockHash, S: SizedSource> AnyTable<H, S> {
+    /// Opens a table file, by the type of the frame that its footer names as index: reads the
+    /// footer, and opens the table as [`AnyTable::open`] does.
+    ///
+    /// # Errors
+    ///
+    /// `Error::Io` if the source fails, `Error::Truncated` if it is shorter than a footer, then
+    /// those of [`AnyTable::open`]. The source is returned with the error.
     pub fn open_file(alloc: Global, source: S) -> std::result::Result<AnyTable<H, S>, OpenError<S>>
         ensures source { UsesSource S.bytes S.failures S.reads S.is_reliable AsksAny
             source (any_source_after result) (any_error_after result) }
         ensures asked { AsksAs S.bytes S.failures S.reads source (any_source_after result)
             (any_error_after result) (λ all. any_frames (hashes H.hash64 H.hash128) all) }
-        ensures exact { IfSome (S.bytes source) (λ all. MatchResult result
-            (λ t. any_by_footer (hashes H.hash64 H.hash128) all ≡ Ok (kept_in t))
-            (λ e. FailsAs (S.failures source < S.failures e.source) (S.is_reliable source)
-            (any_by_footer (hashes H.hash64 H.hash128) all) e.error)) }
+        ensures exact { OpensAs S.bytes S.failures S.is_reliable source result
+            (λ all. any_by_footer (hashes H.hash64 H.hash128) all) }
     {
-        match Table::open_file(alloc, source) {
-            Ok(table) => Ok(AnyTable::Plain(table)),
-            Err(failed) => {
-                if is_other_type(&failed.error) {
-                    open_parted(alloc, failed.source)
-                } else {
-                    Err(failed)
-                }
-            }
+        let mut source = source;
+        match read_table_footer(alloc, &mut source) {
+            Ok(handles) => AnyTable::open(alloc, source, handles),
+            Err(error) => Err(OpenError { error, source }),
         }
     }
 }

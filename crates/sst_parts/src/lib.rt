@@ -1,8 +1,8 @@
-//! Over `sstable_blocks`: parted tables, which are table files one after the other and an index
-//! over them, of which a read reads of one part the footer, the filter, the index and one block;
-//! scans of them from both ends, a part at a time, also over borrowed bytes without checks; reads
-//! of many keys of a table, each block once; and caches of blocks and of open parts, which tables
-//! share.
+//! Over `sstable_blocks` and `sst_merge`: parted tables, which are table files one after the other
+//! and an index over them, of which a read reads of one part the footer, the filter, the index and
+//! one block; scans of them from both ends, a part at a time, also over borrowed bytes without
+//! checks; tables of either kind, as sources and readers of merges; reads of many keys of a table,
+//! each block once; and caches of blocks and of open parts, which tables share.
 #![tactic(auto)]
 
 pub mod any_scan;
@@ -22,6 +22,7 @@ pub mod parts_reader;
 pub mod ref_scan;
 pub mod scan;
 mod scan_end;
+pub mod stored;
 pub mod table;
 pub mod writer;
 

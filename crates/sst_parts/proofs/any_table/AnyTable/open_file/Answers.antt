@@ -1,17 +1,32 @@
-use Rattle.std.proofs.Common.{IsTrue, subst, sym}
-use Rattle.sst_parts.proofs.Reading.AnyOpenings.{opened_in_parts, parted_asked, plain_asked, refused_asked}
+use Rattle.std.proofs.Common.{refl}
+use Rattle.sstable_blocks.specs.Footer.{table_handles}
+use Rattle.sstable_blocks.specs.FrameCountLaws.{fails_on, goes_on, stops_as}
+use Rattle.sstable_blocks.specs.Results.{◌>>=◌}
 use Rattle.sstable_blocks.specs.RunReading.{hashes}
+use Rattle.sst_parts.proofs.Reading.AnyOpenings.{opens_on}
+use Rattle.sst_parts.specs.AnyTables.{any_by_handles, handles_frames}
 use Rattle.sst_parts.proofs.any_table.AnyTable.open_file.Goals as goal
 
-pub returns-then-is_other_type-clause-exact : goal.returns-then-is_other_type-clause-exact
-returns-then-is_other_type-clause-exact g c =
+pub returns-in-Ok-clause-exact : goal.returns-in-Ok-clause-exact
+returns-in-Ok-clause-exact g c =
+    let h = hashes g.H.BlockHash.hash64 g.H.BlockHash.hash128 in
     let f = g.S.FrameSource in
-    let u = c.in-Err.ensures.source in
-    let other = c.is_other_type.ensures.0 c.if-is_other_type.true in
-    opened_in_parts (hashes g.H.BlockHash.hash64 g.H.BlockHash.hash128) f.failures f.is_reliable c.args.source c.in-Err.failed u.failures_grow u.kept other (f.bytes c.args.source) (f.bytes c.in-Err.failed.source) _ u.same c.in-Err.ensures.exact c.open_parted.ensures.exact
+    let t = c.in-Ok.ensures in
+    opens_on f.bytes f.failures f.is_reliable c.args.source _ c.in-Ok.handles table_handles (any_by_handles h) t.source.failures_grow t.source.kept _ t.source.same t.exact c.open.ensures.exact
 
-pub returns-then-is_other_type-clause-asked : goal.returns-then-is_other_type-clause-asked
-returns-then-is_other_type-clause-asked g c =
-    let e = c.in-Err.ensures in
-    let p = c.open_parted.ensures in
-    parted_asked (hashes g.H.BlockHash.hash64 g.H.BlockHash.hash128) _ _ _ _ _ _ _ _ _ _ _ e.source.same e.source.failures_grow p.source.failures_grow (c.is_other_type.ensures.0 c.if-is_other_type.true) e.exact e.asked p.asked
+pub returns-in-Err-clause-exact : goal.returns-in-Err-clause-exact
+returns-in-Err-clause-exact g c =
+    let h = hashes g.H.BlockHash.hash64 g.H.BlockHash.hash128 in
+    fails_on _ _ _ (λ all r. r >>= any_by_handles h all) _ table_handles (λ all e. refl) c.in-Err.ensures.exact
+
+pub returns-in-Ok-clause-asked : goal.returns-in-Ok-clause-asked
+returns-in-Ok-clause-asked g c =
+    let h = hashes g.H.BlockHash.hash64 g.H.BlockHash.hash128 in
+    let t = c.in-Ok.ensures in
+    let o = c.open.ensures in
+    goes_on _ _ _ _ _ _ _ _ 1 _ _ table_handles (handles_frames h) t.source.same t.source.asks.1 t.source.failures_grow o.source.failures_grow t.exact o.asked
+
+pub returns-in-Err-clause-asked : goal.returns-in-Err-clause-asked
+returns-in-Err-clause-asked g c =
+    let h = hashes g.H.BlockHash.hash64 g.H.BlockHash.hash128 in
+    stops_as _ _ _ _ _ 1 _ _ table_handles (handles_frames h) c.in-Err.ensures.asked c.in-Err.ensures.exact
