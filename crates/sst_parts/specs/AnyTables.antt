@@ -3,7 +3,7 @@ use Rattle.std.specs.Prelude.{◌≡◌, ℕ, ◌+◌, ◌<◌, List, map, slice
 use Rattle.sstable_blocks.specs.Prelude.{HandleParts, Counted, CountsBetween, Entry, Handle, block_type_of, handles}
 use Rattle.sstable_blocks.specs.BlockTypes.{BlockType, Meta}
 use Rattle.sstable_blocks.specs.Results.{◌>>=◌, Error}
-use Rattle.sst_parts.specs.PartReaders.{needles_frames, read_open_by_top}
+use Rattle.sst_parts.specs.PartReaders.{FindsAllInParts, needles_frames, read_open_by_top}
 use Rattle.sst_parts.specs.Parts.{FindsInParts, IsParted, parted_frames, parted_most, read_by_top, tops_at}
 use Rattle.sst_parts.specs.declared.any_table.AnyTable.{AnyTable}
 use Rattle.sst_parts.specs.declared.any_table.AnyTable.TheVariants.{Plain, Parted}
@@ -11,7 +11,7 @@ use Rattle.sstable_blocks.specs.Blocks.{joined}
 use Rattle.sstable_blocks.specs.Footer.{table_handles}
 use Rattle.sstable_blocks.specs.FrameCounts.{open_frames}
 use Rattle.sstable_blocks.specs.Lookup.{handle_for}
-use Rattle.sstable_blocks.specs.ManyReads.{many_frames, needle_place}
+use Rattle.sstable_blocks.specs.ManyReads.{FindsAll, many_frames, needle_place}
 use Rattle.sstable_blocks.specs.ReadCosts.{CountsRead}
 use Rattle.sstable_blocks.specs.RunReading.{Hashes, range_at, read_checked}
 use Rattle.sstable_blocks.specs.Sound.{FindsFirst, IsSound}
@@ -126,6 +126,11 @@ needles_frames_of_any hash64 (Parted t) ns = needles_frames t.tops None ns
 abbrev pub FindsInAny : {H S : Type 0} → Hashes → AnyTable H S → List ℕ → ℕ → Result (Option Entry) Error → List ℕ → Type 0
 FindsInAny c (Plain t) needle seqno result = FindsFirst c t.handles needle seqno result
 FindsInAny c (Parted t) needle seqno result = FindsInParts c t.top needle seqno result
+
+-- and so is a result, seen by `view`, of each needle
+abbrev pub FindsAllInAny : {H S X : Type 0} → Hashes → AnyTable H S → List Needle → (X → List (Option Entry)) → Result X Error → List ℕ → Type 0
+FindsAllInAny c (Plain t) needles view result = FindsAll c t.handles needles view result
+FindsAllInAny c (Parted t) needles view result = FindsAllInParts c t.top needles view result
 
 -- bytes are a table of these entries: a sound run, or a parted table
 abbrev pub HasEntries : {H S : Type 0} → Hashes → AnyTable H S → List ℕ → List Entry → Type 0

@@ -1,6 +1,7 @@
 //! Tables of either kind in a file.
 ghost use Rattle.std.specs.Prelude.{◌≡◌, IfSome, true};
-ghost use Rattle.sst_parts.specs.AnyTables.{AsksOfAny, CountsAny, FindsInAny, LooksInAny, OpensAs};
+ghost use Rattle.sst_parts.specs.AnyTables.{AsksOfAny, CountsAny, FindsAllInAny, FindsInAny};
+ghost use Rattle.sst_parts.specs.AnyTables.{LooksInAny, OpensAs};
 ghost use Rattle.sst_parts.specs.AnyTables.{any_by_footer, any_by_handles, any_by_type};
 ghost use Rattle.sst_parts.specs.AnyTables.{any_error_after, any_frames, any_source_after};
 ghost use Rattle.sst_parts.specs.AnyTables.{handles_frames, index_of, needles_frames_of_any};
@@ -220,6 +221,8 @@ impl<H: BlockHash, S: FrameSource> AnyTable<H, S> {
         ensures exact { ReadsAs S.bytes S.failures S.is_reliable (source_in self.old)
             (source_in self.new) (λ v. v.items) result (λ all. read_each
             (read_open_any (hashes H.hash64 H.hash128) all self.old) needles.now) }
+        ensures sound { IfSome (S.bytes (source_in self.old)) (FindsAllInAny
+            (hashes H.hash64 H.hash128) self.old needles.now (λ v. v.items) result) }
     {
         match self {
             AnyTable::Plain(table) => table.get_many(alloc, needles, steps),
