@@ -3,7 +3,7 @@ use Rattle.std.specs.Prelude.{◌≡◌, ◌⊎◌, ℕ, ◌+◌, List, slice_ge
 use Rattle.sst_parts.specs.CachedBlocks.{Blocks, IsAdded, ReadsBlock, block_frames, block_of_run}
 use Rattle.sst_parts.specs.Caches.{CacheParts, Keeps, Kept, kept_at, looked_up, place_at}
 use Rattle.sst_parts.specs.Parts.{PartedParts, places_in}
-use Rattle.sst_parts.specs.declared.cached_part.Numbers.{Numbers}
+use Rattle.sst_parts.specs.declared.part_cache.Numbers.{Numbers}
 use Rattle.sstable_blocks.specs.Prelude.{DataBlockParts, Handle, HandleParts, handles}
 use Rattle.sstable_blocks.specs.Lookup.{handle_for}
 use Rattle.sstable_blocks.specs.Opened.{range_of}

@@ -12,6 +12,5 @@ pub mod PartKinds
 pub mod PartChecks
 pub mod PartFinds
 pub mod RefScans
-
 pub mod StoredParts
 pub mod StoredLaws

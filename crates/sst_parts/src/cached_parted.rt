@@ -8,8 +8,8 @@ ghost use Rattle.sstable_blocks.specs.Prelude.{CountsBetween, handles};
 ghost use Rattle.sstable_blocks.specs.RunReading.{hashes};
 ghost use Rattle.sstable_blocks.specs.Sources.{AsksUpTo, ReadsAs, UsesSource};
 
-use crate::cached_block::BlockCache;
-use crate::cached_part::{Numbers, PartCache};
+use crate::block_cache::BlockCache;
+use crate::part_cache::{Numbers, PartCache};
 use crate::table::PartedTable;
 use sstable_blocks::run::FrameSource;
 use sstable_blocks::{BlockHash, InternalValue, Result, SeqNo, Steps};

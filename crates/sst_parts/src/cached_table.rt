@@ -9,7 +9,7 @@ ghost use Rattle.sstable_blocks.specs.Sound.{FindsFirst};
 ghost use Rattle.sstable_blocks.specs.Sources.{AsksExactly, ReadsAs, UsesSource};
 ghost use Rattle.sstable_blocks.specs.Tables.{LooksBy, kept_says, kept_parts};
 
-use crate::cached_block::{BlockCache, get_through};
+use crate::block_cache::{BlockCache, get_through};
 use sstable_blocks::run::laws::sound_is_read;
 use sstable_blocks::run::{FrameSource, OpenRun, RunPlace, Table};
 use sstable_blocks::{BlockHash, InternalValue, Result, SeqNo, Steps};

@@ -7,15 +7,15 @@
 
 pub mod any_scan;
 pub mod any_table;
+pub mod block_cache;
 pub mod cache;
-pub mod cached_block;
-pub mod cached_part;
 pub mod cached_parted;
 pub mod cached_table;
 pub mod checking;
 mod closed;
 pub mod laws;
 mod part;
+pub mod part_cache;
 mod part_range;
 pub mod parted_ref;
 pub mod parts_reader;
@@ -28,12 +28,12 @@ pub mod writer;
 
 pub use any_scan::AnyScan;
 pub use any_table::AnyTable;
+pub use block_cache::BlockCache;
 pub use cache::Cache;
-pub use cached_block::BlockCache;
-pub use cached_part::{Numbers, PartCache};
 pub use cached_parted::CachedParted;
 pub use cached_table::CachedTable;
 pub use checking::PartedSummary;
+pub use part_cache::{Numbers, PartCache};
 pub use parted_ref::PartedRef;
 pub use parts_reader::PartsReader;
 pub use ref_scan::PartedRefScan;

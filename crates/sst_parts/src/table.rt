@@ -22,13 +22,13 @@ ghost use Rattle.sstable_blocks.specs.Scans.{AtHandle};
 ghost use Rattle.sstable_blocks.specs.Sources.{AsksAs, AsksExactly, AsksIfOk, AsksUpTo};
 ghost use Rattle.sstable_blocks.specs.Sources.{FailsAs, GivesOr, ReadsAs, UsesSource};
 
-use crate::cached_block::BlockCache;
-use crate::cached_part::{Numbers, PartCache, get_by_tops};
+use crate::block_cache::BlockCache;
 use crate::checking::{PartedSummary, check_parts};
 use crate::laws::{
     accepted_parted_is_sound, open_part_is_read, parted_is_accepted, parted_is_read,
 };
 use crate::part::{find_part, read_in_part};
+use crate::part_cache::{Numbers, PartCache, get_by_tops};
 use crate::parts_reader::PartsReader;
 use sstable_blocks::laws::index_check_is_by_stages;
 use sstable_blocks::run::checked::block_from;

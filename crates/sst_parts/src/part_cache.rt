@@ -16,8 +16,8 @@ ghost use Rattle.sstable_blocks.specs.RunReading.{hashes};
 ghost use Rattle.sstable_blocks.specs.Sources.{AsksUpTo, ReadsAs, UsesSource};
 ghost use Rattle.sstable_blocks.specs.declared.run.place.RunPlace.TheVariants.{Part};
 
+use crate::block_cache::{BlockCache, get_through};
 use crate::cache::{Cache, Cached};
-use crate::cached_block::{BlockCache, get_through};
 use crate::part::{find_part, open_part};
 use sstable_blocks::run::{FrameSource, OpenRun, RunPlace};
 use sstable_blocks::{

@@ -2,7 +2,7 @@ use Rattle.std.proofs.Common.{arith}
 use Rattle.std.proofs.lemmas.Result.{err_from_is_err_and}
 use Rattle.sst_parts.proofs.Cached.PartsKept.{no_counts, of_needle, read_later}
 use Rattle.sstable_blocks.specs.RunReading.{hashes}
-use Rattle.sst_parts.proofs.cached_part.read_new.Goals as goal
+use Rattle.sst_parts.proofs.part_cache.read_new.Goals as goal
 
 pub returns-in_err-run-clause-exact : goal.returns-in_err-run-clause-exact
 returns-in_err-run-clause-exact g c =

@@ -1,7 +1,7 @@
 use Rattle.std.proofs.lemmas.Result.{err_from_is_err_and}
 use Rattle.sst_parts.proofs.Cached.CachedReads.{block_read, refused_read}
 use Rattle.sstable_blocks.specs.RunReading.{hashes}
-use Rattle.sst_parts.proofs.cached_block.read_new.Goals as goal
+use Rattle.sst_parts.proofs.block_cache.read_new.Goals as goal
 
 pub returns-in_err-block-clause-read : goal.returns-in_err-block-clause-read
 returns-in_err-block-clause-read g c =

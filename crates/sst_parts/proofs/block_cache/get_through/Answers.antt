@@ -2,7 +2,7 @@ use Rattle.std.proofs.Common.{ℕ, sym, ◌∙◌, ap, Ok, Some, None}
 use Rattle.sstable_blocks.specs.FoundLaws.{found_read, none_found}
 use Rattle.sstable_blocks.specs.KeptLaws.{checked_on}
 use Rattle.sstable_blocks.specs.RunReading.{hashes}
-use Rattle.sst_parts.proofs.cached_block.get_through.Goals as goal
+use Rattle.sst_parts.proofs.block_cache.get_through.Goals as goal
 
 pub returns-clause-exact : goal.returns-clause-exact
 returns-clause-exact g c =

@@ -1,7 +1,7 @@
 use Rattle.sst_parts.proofs.Cached.PartsKept.{looks_grow, part_counts}
 use Rattle.sst_parts.proofs.Reading.OpenParts.{open_read}
 use Rattle.sstable_blocks.specs.RunReading.{hashes}
-use Rattle.sst_parts.proofs.cached_part.read_open_part.Goals as goal
+use Rattle.sst_parts.proofs.part_cache.read_open_part.Goals as goal
 
 pub returns-clause-exact : goal.returns-clause-exact
 returns-clause-exact g c =

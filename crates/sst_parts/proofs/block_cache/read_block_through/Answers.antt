@@ -2,7 +2,7 @@ use Rattle.std.proofs.Common.{sym, ◌∙◌}
 use Rattle.sst_parts.proofs.Cached.CachedReads.{at_place, counted_at, not_at_place, not_counted_at}
 use Rattle.sstable_blocks.specs.RunPlaceLaws.{placed_in_any}
 use Rattle.sstable_blocks.specs.RunReading.{hashes}
-use Rattle.sst_parts.proofs.cached_block.read_block_through.Goals as goal
+use Rattle.sst_parts.proofs.block_cache.read_block_through.Goals as goal
 
 pub frame-requires : goal.frame-requires
 frame-requires g c = placed_in_any _ _ c.requires.placed

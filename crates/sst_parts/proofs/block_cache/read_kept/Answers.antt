@@ -1,7 +1,7 @@
 use Rattle.std.specs.List.{slice_get}
 use Rattle.sst_parts.proofs.Cached.CachedReads.{kept_read}
 use Rattle.sstable_blocks.specs.RunReading.{hashes}
-use Rattle.sst_parts.proofs.cached_block.read_kept.Goals as goal
+use Rattle.sst_parts.proofs.block_cache.read_kept.Goals as goal
 
 pub returns-clause-read : goal.returns-clause-read
 returns-clause-read g c =

@@ -2,7 +2,7 @@ use Rattle.std.proofs.Common.{refl}
 use Rattle.sst_parts.proofs.Reading.OpenParts.{open_top_read}
 use Rattle.sst_parts.proofs.Scanning.PartSteps.{top_counted, top_uncounted}
 use Rattle.sstable_blocks.specs.RunReading.{hashes}
-use Rattle.sst_parts.proofs.cached_part.get_by_tops.Goals as goal
+use Rattle.sst_parts.proofs.part_cache.get_by_tops.Goals as goal
 
 pub returns-in_default-clause-counts : goal.returns-in_default-clause-counts
 returns-in_default-clause-counts g c = top_uncounted c.args.needle.now c.args.seqno _ _ _ _ _ c.find_part.ensures.counts
