@@ -3,13 +3,10 @@ use Rattle.std.proofs.Common.{◌≡◌, ℕ, ◌≤◌, Bool, true, false, List
 use Rattle.std.specs.List.{slice_get}
 use Rattle.sstable_blocks.specs.Prelude.{Counted, CountsBetween, Entry, HandleParts}
 use Rattle.sstable_blocks.specs.Results.{Error}
-use Rattle.sst_parts.specs.CachedBlocks.{block_frames, frames_for}
 use Rattle.sst_parts.specs.CachedParts.{IsOpenIn}
-use Rattle.sst_parts.specs.Caches.{Kept, kept_at, place_at}
 use Rattle.sst_parts.specs.PartReaders.{read_open}
 use Rattle.sst_parts.specs.Parts.{most_by_places, places_in}
 use Rattle.sstable_blocks.specs.CheckedLaws.{gives_or_later}
-use Rattle.sstable_blocks.specs.Prelude.{DataBlockParts}
 use Rattle.sstable_blocks.specs.ReadCosts.{CountsRead}
 use Rattle.sstable_blocks.specs.RunPlaces.{bytes_at, part_in}
 use Rattle.sstable_blocks.specs.RunReading.{Hashes}
@@ -17,14 +14,6 @@ use Rattle.sstable_blocks.specs.Sources.{FailsAs, GivesOr}
 use Rattle.sstable_blocks.specs.Tables.{KeptParts, LooksBy}
 use Rattle.sstable_blocks.specs.declared.run.RunHandles.{RunHandles}
 use Rattle.sstable_blocks.specs.declared.run.place.RunPlace.TheVariants.{Part}
-
--- at most one frame is asked for to have a block
-pub few_frames : (kept : List (Kept DataBlockParts)) (number : ℕ) (h : Option HandleParts) → block_frames kept number h ≤ 1
-few_frames kept number None = omega arith
-few_frames kept number (Some h) = few (kept_at kept (place_at number h)) where
-  few : (b : Option DataBlockParts) → frames_for b ≤ 1
-  few None = omega arith
-  few (Some b) = omega arith
 
 -- what a read looks at is only added to
 pub looks_grow : (r : Result Bool Error) (s t : Counted) → LooksBy r s t → s.heads ≤ t.heads
