@@ -1,6 +1,6 @@
 //! Over `sstable_blocks`: parted tables, which are table files one after the other and an index
-//! over them, of which a read reads of one part the footer, the filter, the index and one block;
-//! scans of them from both ends, a part at a time, also over borrowed bytes without checks; reads
+//! over them, of which a read reads of one part the footer, the filter, the index and one block,
+//! and whose parts are copied into other tables as they are; scans of them from both ends, a part at a time, also over borrowed bytes without checks; reads
 //! of many keys of a table, each block once; and a cache of blocks, which tables share.
 #![tactic(auto)]
 
@@ -10,8 +10,10 @@ pub mod cache;
 pub mod cached_table;
 pub mod checking;
 mod closed;
+pub mod copier;
 pub mod laws;
 mod part;
+mod part_core;
 mod part_range;
 pub mod parted_ref;
 pub mod parts_reader;
@@ -26,6 +28,7 @@ pub use any_table::AnyTable;
 pub use cache::BlockCache;
 pub use cached_table::CachedTable;
 pub use checking::PartedSummary;
+pub use copier::PartCopier;
 pub use parted_ref::PartedRef;
 pub use parts_reader::PartsReader;
 pub use ref_scan::PartedRefScan;

@@ -13,6 +13,8 @@ mod blocks;
 #[cfg(test)]
 mod cached;
 #[cfg(test)]
+mod copied_parts;
+#[cfg(test)]
 mod many_keys;
 #[cfg(test)]
 mod merges;
