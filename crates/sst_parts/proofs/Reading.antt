@@ -1,5 +1,6 @@
 -- Reads of parted tables: ranges of parts, openings and point reads.
 pub mod AnyOpenings
+pub mod CopiedTables
 pub mod FileOpenings
 pub mod OpenParts
 pub mod Openings

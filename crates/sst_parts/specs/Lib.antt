@@ -8,6 +8,8 @@ pub mod Parts
 pub mod PartReaders
 pub mod PartScans
 pub mod PartWriting
+pub mod PartCopies
+pub mod CopyStates
 pub mod PartKinds
 pub mod PartChecks
 pub mod PartFinds

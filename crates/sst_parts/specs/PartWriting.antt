@@ -77,11 +77,15 @@ pub record IsPartFile (f : Form) (blocks : List (List Entry)) (text : List ℕ) 
   pub small : h.size < 2 ^ 32
   pub end : IsEnd entries handles (joined blocks) h
 
--- texts are the table files of parts, one after the other from an offset on, which handles name
+-- texts are the files of parts, one after the other from an offset on, which handles name
+abbrev pub AreFiles : {P : Type 0} → (P → List ℕ → Handle → Type 0) → ℕ → List P → List (List ℕ) → List Handle → Type 0
+AreFiles IsFile offset [] [] [] = Unit {0}
+AreFiles IsFile offset (part ∷ parts) (text ∷ texts) (h ∷ hs) = (h.offset ≡ offset) × IsFile part text h × AreFiles IsFile (offset + length text) parts texts hs
+AreFiles IsFile offset parts texts hs = ⊥
+
+-- the table files of parts, each of blocks
 abbrev pub ArePartFiles : Form → ℕ → List (List (List Entry)) → List (List ℕ) → List Handle → Type 0
-ArePartFiles f offset [] [] [] = Unit {0}
-ArePartFiles f offset (part ∷ parts) (text ∷ texts) (h ∷ hs) = (h.offset ≡ offset) × IsPartFile f part text h × ArePartFiles f (offset + length text) parts texts hs
-ArePartFiles f offset parts texts hs = ⊥
+ArePartFiles f offset parts texts hs = AreFiles (IsPartFile f) offset parts texts hs
 
 -- the handles in the footer of a parted table: that of the frame of its index, and none of a filter
 abbrev pub top_handles : HandleParts → RunHandles
@@ -157,31 +161,6 @@ pub record IsLastOf (items : List Entry) (key : List ℕ) (seqno : ℕ) : Type 0
   pub seqno_is : seqno ≡ last.key.seqno
   pub short : length key ≤ 65535
 
--- a writer's known bytes grew by the table files of closed parts, which handles name; the next part begins at an offset
-pub record AreClosed (f : Form) (parts : List (List (List Entry))) (start now : Option (List ℕ)) (tops : List Handle) (offset : ℕ) : Type 0 where
-  pub texts : List (List ℕ)
-  pub files : ArePartFiles f 0 parts texts tops
-  pub ends : AllByRecursion (λ h. h.offset + h.size < 2 ^ 64) tops
-  pub bytes : Appends start now (joined texts)
-  pub offset_is : offset ≡ length (joined texts)
-
--- what contracts see of the parts closed: how they are written, their blocks, their handles, the offset after them, and
--- what the writer held before and after them, if that is known
-pub record ClosedView : Type 0 where
-  pub config : RunConfig
-  pub parts : List (List (List Entry))
-  pub tops : List Handle
-  pub offset : ℕ
-  pub start : Option (List ℕ)
-  pub after : Option (List ℕ)
-
--- a part was closed, after which the writer holds this
-pub record Closes (old : ClosedView) (blocks : List (List Entry)) (new : ClosedView) (now : Option (List ℕ)) : Type 0 where
-  pub config : new.config ≡ old.config
-  pub start : new.start ≡ old.start
-  pub parts : new.parts ≡ old.parts ++ blocks ∷ []
-  pub after : new.after ≡ now
-
 -- a writer's known bytes grew by the frame of an index at an offset, which this handle names
 pub record AppendsTop (hash128 : List ℕ → ℕ) (offset : ℕ) (payload : List ℕ) (old new : Option (List ℕ)) (top : HandleParts) : Type 0 where
   pub fits : PartFits offset payload
@@ -189,37 +168,7 @@ pub record AppendsTop (hash128 : List ℕ → ℕ) (offset : ℕ) (payload : Lis
   pub size : top.size ≡ 33 + length payload
   pub bytes : Appends old new (frame hash128 Meta payload)
 
--- the run of the current part begins where the parts closed end
-pub record Joins {W : Type 0} (closed : ClosedView) (run : Writing W) : Type 0 where
-  pub config : run.config ≡ closed.config
-  pub start : run.start ≡ closed.after
-
 -- what is kept of the last entry of the current part: nothing where the part has no block
 abbrev pub IsEndOf : List (List Entry) → Option PartEnd → Type 0
 IsEndOf blocks None = blocks ≡ []
 IsEndOf blocks (Some e) = (1 ≤ length blocks) × IsLastOf (joined blocks) e.key e.seqno
-
--- the blocks of the current part and its end are those of a run that takes blocks, and begins where the parts closed end
-pub record IsCurrent {W : Type 0} (closed : ClosedView) (run : Writing W) (blocks : List (List Entry)) (end : Option PartEnd) : Type 0 where
-  pub accepting : run.refusal ≡ None
-  pub joins : Joins closed run
-  pub blocks_are : blocks ≡ run.blocks
-  pub end_is : IsEndOf run.blocks end
-
--- the parts closed, and the run that the next block is added to: the same, or where the current part is full, one part more
--- and a run without blocks
-pub record IsNextPart {W : Type 0} (closed : ClosedView) (run : Writing W) (full : Bool) (closed' : ClosedView) (run' : Writing W) : Type 0 where
-  pub config : closed'.config ≡ closed.config
-  pub start : closed'.start ≡ closed.start
-  pub parts : closed'.parts ≡ (if full then closed.parts ++ run.blocks ∷ [] else closed.parts)
-  pub blocks : run'.blocks ≡ (if full then [] else run.blocks)
-  pub refusal : run'.refusal ≡ None
-  pub joins : Joins closed' run'
-
--- what a writer of a parted table keeps of the current part
-pub record IsOpenPart {W : Type 0} (closed : ClosedView) (run : Writing W) (sizes : PartSizes) (blocks : List (List Entry)) (end : Option PartEnd) (left : ℕ) : Type 0 where
-  pub writable : IsWritable closed.config
-  pub current : IsCurrent closed run blocks end
-  pub left_is : left ≡ sizes.bytes - data_len (joined run.blocks)
-  pub cut : AreCut sizes closed.parts run.blocks
-  pub ordered : IsOrdered entries (joined (joined closed.parts ++ run.blocks))

@@ -1,13 +1,17 @@
 //! The parts of a parted table that are closed while it is written.
 ghost use Rattle.std.specs.Prelude.{◌≡◌, ◌⊎◌, ◌+◌, ◌++◌, ◌∷◌, [], ◌≤◌, ◌<◌, ◌^◌, IfErr, IfOk};
 ghost use Rattle.std.specs.Prelude.{IsErrOf};
-ghost use Rattle.std.specs.Prelude.{IfSome, IsNone, IsOkUnless, None, Some, length, map};
-ghost use Rattle.sst_parts.specs.PartWriting.{AppendsOpen, AppendsPart, AppendsTop, Closes};
-ghost use Rattle.sst_parts.specs.PartWriting.{IsCurrent};
-ghost use Rattle.sst_parts.specs.PartWriting.{IsLastOf, PartEnds, PartFileFits, TopFits};
+ghost use Rattle.std.specs.Prelude.{IfSome, IsNone, IsOkUnless, None, length, map};
+ghost use Rattle.std.specs.Prelude.{◌↔◌, IsTrue};
+ghost use Rattle.std.specs.Option.{option_map};
+ghost use Rattle.sst_parts.specs.PartCopies.{AppendsOpenCopies, ClosedEnds, ClosedTopFits, Closes};
+ghost use Rattle.sst_parts.specs.PartCopies.{CopyFits, IsBetween, IsCurrent, IsLastKey};
+ghost use Rattle.sst_parts.specs.PartCopies.{known_parts};
+ghost use Rattle.sst_parts.specs.PartWriting.{AppendsPart, AppendsTop, IsLastOf, PartFileFits};
+ghost use Rattle.sst_parts.specs.declared.closed.PartOrigin.TheVariants.{Copied, Made};
 ghost use Rattle.sstable_blocks.specs.Blocks.{joined};
 ghost use Rattle.sstable_blocks.specs.Footer.{run_end};
-ghost use Rattle.sstable_blocks.specs.Prelude.{entries, IsOrdered};
+ghost use Rattle.sstable_blocks.specs.Prelude.{IsRefusal};
 ghost use Rattle.sstable_blocks.specs.Results.{Io, TooLong};
 ghost use Rattle.sstable_blocks.specs.Run.{IsWritable, form};
 ghost use Rattle.sstable_blocks.specs.Writing.{IsWriteRefusal, PartFits, UsesWriter};
@@ -26,6 +30,15 @@ use std::marker::{Model, PhantomData};
 
 // The greatest length of a payload after a handle: its frame has at most 2^32 - 1 bytes.
 const MAX_PAYLOAD: usize = 4294967262;
+
+/// What a part that was closed was written from. No value is made of it: only clauses speak of it.
+#[derive(Drop)]
+pub enum PartOrigin {
+    /// The blocks that it was made of.
+    Made(LinkedList<LinkedList<InternalValue>>),
+    /// The bytes of a part of another table, which were copied, and its handle there.
+    Copied(LinkedList<u8>, KeyedBlockHandle),
+}
 
 /// The key and the sequence number of the last entry of a part.
 #[derive(Drop)]
@@ -80,6 +93,21 @@ fn end_part<H: BlockHash, W: Output + Drop>(
     Ok((KeyedBlockHandle::new(key, seqno, place), writer))
 }
 
+// The handle of a part at an offset, with its length and its end, and the offset after it.
+fn moved(end: &KeyedBlockHandle, offset: u64) -> Result<(KeyedBlockHandle, u64)>
+    ensures handle { IfOk result (λ r. r.0 ≡ record end.now { offset = offset }) }
+    ensures next { IfOk result (λ r. r.1 ≡ offset + end.now.size) }
+    ensures end { IfOk result (λ r. r.1 < 2 ^ 64) }
+    ensures cause { IfErr result (IsRefusal None (2 ^ 64 ≤ offset + end.now.size)) }
+{
+    let Some(next) = offset.checked_add(u64::from(end.size())) else {
+        return Err(Error::TooLong);
+    };
+    let key = end.end_key().clone()?;
+    let place = BlockHandle::new(BlockOffset(offset), end.size());
+    Ok((KeyedBlockHandle::new(key, end.seqno(), place), next))
+}
+
 // Writes the frame of the index of the parts at an offset.
 fn write_index<H: BlockHash, W: Output>(
     writer: &mut W,
@@ -120,21 +148,21 @@ fn top_handle(payload_len: usize, offset: u64) -> Option<BlockHandle>
 
 /// What is kept of the parts closed: a handle of each. Calls that write take the writer.
 ///
-/// Clauses see the configuration, the blocks of the parts, their handles, the offset after them,
-/// what the writer held when this was made, and after the last part.
+/// Clauses see the configuration, what the parts were written from, their handles, the offset after
+/// them, what the writer held when this was made, and after the last part.
 #[derive(Drop)]
 pub(crate) struct ClosedParts<H: BlockHash> {
     hash: PhantomData<H>,
     config: RunConfig,
     tops: Vec<KeyedBlockHandle>,
     offset: u64,
-    parts: History<LinkedList<LinkedList<InternalValue>>>,
+    parts: History<PartOrigin>,
     start: Contents,
     after: Contents,
 }
 
 impl<H: BlockHash> Model for ClosedParts<H> {
-    ghost use Rattle.sst_parts.specs.PartWriting.{AreClosed, ClosedView};
+    ghost use Rattle.sst_parts.specs.PartCopies.{AreClosed, ClosedView};
     ghost use Rattle.sstable_blocks.specs.Run.{form};
 
     ghost Value = { ClosedView };
@@ -223,10 +251,10 @@ impl<H: BlockHash> ClosedParts<H> {
         end: PartEnd,
     ) -> Result<(ClosedParts<H>, W)>
         requires { IsCurrent self run blocks.now (Some end) }
-        ensures closed { IfOk result (λ r. Closes self run.blocks r.0 (W.contents r.1)) }
+        ensures closed { IfOk result (λ r. Closes self (Made run.blocks) r.0 (W.contents r.1)) }
         ensures reliable { IfOk result (λ r. W.never_fails run.writer → W.never_fails r.1) }
         ensures failed { IsErrOf result Io → W.never_fails run.writer → ⊥ }
-        ensures cause { IfErr result (IsWriteRefusal (PartEnds
+        ensures cause { IfErr result (IsWriteRefusal (ClosedEnds
             (form H.hash64 H.hash128 self.config) self.parts run.blocks → ⊥)) }
     {
         let ClosedParts {
@@ -255,6 +283,69 @@ impl<H: BlockHash> ClosedParts<H> {
         Ok((closed, writer))
     }
 
+    /// Writes the bytes of a part of another table as they are, with its handle there. Returns the
+    /// parts with it.
+    ///
+    /// # Errors
+    ///
+    /// `Error::TooLong` only where the part ends at 2^64 or above, `Error::Memory` if an allocation
+    /// fails, `Error::Io` if the writer fails.
+    pub(crate) fn copy<W: Output>(
+        self,
+        writer: &mut W,
+        part: &[u8],
+        end: &KeyedBlockHandle,
+    ) -> Result<ClosedParts<H>>
+        requires size { end.now.size ≡ length part.now }
+        requires after { W.contents writer.old ≡ self.after }
+        ensures copied { IfOk result (λ r. Closes self (Copied part.now end.now) r
+            (W.contents writer.new)) }
+        ensures writer { UsesWriter W.never_fails writer.old writer.new result }
+        ensures cause { IfErr result (IsWriteRefusal (CopyFits
+            (form H.hash64 H.hash128 self.config) self.parts part.now → ⊥)) }
+    {
+        let ClosedParts {
+            hash: _,
+            config,
+            mut tops,
+            offset,
+            mut parts,
+            start,
+            after: _,
+        } = self;
+        let (copied, next) = moved(end, offset)?;
+        parts.push_chosen(&(part, end));
+        tops.push(copied)?;
+        writer.put(part)?;
+        Ok(ClosedParts {
+            hash: PhantomData,
+            config,
+            tops,
+            offset: next,
+            parts,
+            start,
+            after: Contents::of(&*writer),
+        })
+    }
+
+    /// Returns whether a part is closed.
+    pub(crate) fn has_parts(&self) -> bool
+        ensures { IsTrue result ↔ (1 ≤ length self.now.parts) }
+    {
+        !self.tops.is_empty()
+    }
+
+    /// Returns the key and the sequence number of the last entry of the last part, if there is one.
+    pub(crate) fn last_end(&self) -> Option<(&[u8], SeqNo)>
+        ensures { IsLastKey (joined (joined (known_parts self.now.parts)))
+            (option_map (λ e. (e.0.now, e.1)) result) }
+    {
+        match self.tops.last() {
+            None => None,
+            Some(end) => Some((end.end_key().as_slice(), end.seqno())),
+        }
+    }
+
     /// Writes the index of the parts. Returns its handle.
     ///
     /// # Errors
@@ -263,14 +354,13 @@ impl<H: BlockHash> ClosedParts<H> {
     /// `Error::Io` if the writer fails.
     pub(crate) fn write_top<W: Output>(&self, writer: &mut W) -> Result<BlockHandle>
         requires some { 1 ≤ length self.now.parts }
-        requires ordered { IsOrdered entries (joined (joined self.now.parts)) }
-        requires interval { 1 ≤ self.now.config.index_interval }
-        requires after { W.contents writer.old ≡ self.now.after }
-        ensures parts { IfOk result (λ top. AppendsOpen (form H.hash64 H.hash128 self.now.config)
-            self.now.parts self.now.start (W.contents writer.new) top) }
+        requires between { IsBetween self.now (W.contents writer.old) }
+        ensures parts { IfOk result (λ top. AppendsOpenCopies
+            (form H.hash64 H.hash128 self.now.config) self.now.parts self.now.start
+            (W.contents writer.new) top) }
         ensures writer { UsesWriter W.never_fails writer.old writer.new result }
         ensures cause { IfErr result (IsWriteRefusal
-            (TopFits (form H.hash64 H.hash128 self.now.config) self.now.parts → ⊥)) }
+            (ClosedTopFits (form H.hash64 H.hash128 self.now.config) self.now.parts → ⊥)) }
     {
         let (alloc, interval) = (*self.tops.allocator(), self.config.index_interval);
         let payload = IndexBlock::encode_into_vec_with(alloc, &self.tops, interval)?;

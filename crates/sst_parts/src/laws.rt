@@ -2,18 +2,25 @@
 //! in its proof by calling the function.
 ghost use Rattle.std.specs.Prelude.{◌≡◌, ◌++◌, ◌<◌, ◌^◌, ℕ, List, None, Ok, Option, map};
 ghost use Rattle.std.specs.Prelude.{Some, slice_get};
-ghost use Rattle.std.specs.List.{AllZip};
+ghost use Rattle.std.specs.List.{AllByRecursion, AllZip};
 ghost use Rattle.std.specs.Option.{option_map};
 ghost use Rattle.sst_parts.specs.declared.checking.PartedSummary.{PartedSummary};
 ghost use Rattle.sst_parts.specs.PartChecks.{check_parted, summary_of_parts};
 ghost use Rattle.sst_parts.specs.PartFinds.{FoundPart, IsReadIndex};
 ghost use Rattle.sst_parts.specs.PartReaders.{read_open_by_top};
-ghost use Rattle.sst_parts.specs.Parts.{IsParted, read_by_top, tops_at, tops_by_footer};
+ghost use Rattle.sst_parts.specs.PartCopies.{CopiedTable, IsCopiedTable, IsCopiesLayout};
+ghost use Rattle.sst_parts.specs.PartCopies.{IsPartFrom, IsPartOfTable, copied_parts};
+ghost use Rattle.sst_parts.specs.PartCopies.{parts_of_tables, sources_of};
+ghost use Rattle.sst_parts.specs.Parts.{IsParted, IsStoredPart, read_by_top, tops_at};
+ghost use Rattle.sst_parts.specs.Parts.{tops_by_footer};
 ghost use Rattle.sst_parts.specs.PartScans.{parts_read};
 ghost use Rattle.sst_parts.specs.RefScans.{IsScannedPart};
 ghost use Rattle.sst_parts.specs.PartWriting.{IsPartedFile, IsPartedLayout};
 ghost use Rattle.sstable_blocks.specs.Blocks.{joined};
 ghost use Rattle.sstable_blocks.specs.Lookup.{IsEnd, first_in, handle_for, place_for};
+ghost use Rattle.sst_parts.specs.declared.closed.PartOrigin.{PartOrigin};
+ghost use Rattle.sstable_blocks.specs.Opened.{range_of};
+ghost use Rattle.sstable_blocks.specs.RunPlaces.{part_in};
 ghost use Rattle.sstable_blocks.specs.Prelude.{IsBytes, HandleParts, Entry, plain, entries, Handle};
 ghost use Rattle.sstable_blocks.specs.Prelude.{handles, IsOrdered, first_match};
 ghost use Rattle.sstable_blocks.specs.Run.{Form};
@@ -164,6 +171,54 @@ pub fn parted_layout_is_parted()
         → IsPartedFile (hashes f.hash64 f.hash128) parts bytes top }
 {
     layout_is_sound();
+}
+
+/// The layout of a parted table, as [`PartCopier`](crate::PartCopier) writes it, is the file of a
+/// parted table wherever the bytes that were copied are parts and all entries are ordered: of the
+/// parts that were made of blocks, and of those copied.
+pub fn copied_layout_is_parted()
+    ensures { (f : Form) (closed : List PartOrigin) (parts : List (List (List Entry)))
+        (bytes : List ℕ) (top : HandleParts) → IsCopiesLayout f closed bytes top
+        → AllZip (IsPartFrom (hashes f.hash64 f.hash128)) parts closed
+        → IsOrdered entries (joined (joined parts))
+        → IsPartedFile (hashes f.hash64 f.hash128) parts bytes top }
+{
+    layout_is_sound();
+}
+
+/// The bytes that a handle names in the bytes of a parted table hold its part alone.
+pub fn part_is_cut()
+    ensures { (c : Hashes) (bytes : List ℕ) (part : List (List Entry)) (h : Handle)
+        → IsStoredPart c bytes part h
+        → IsStoredPart c (part_in bytes (range_of h)) part (record h { offset = 0 }) }
+{}
+
+/// Parts of parted tables that are copied one after the other are a parted table of these parts,
+/// wherever their entries are ordered.
+pub fn copied_parts_are_parted()
+    ensures { (f : Form) (sources : List (List ℕ × Handle)) (parts : List (List (List Entry)))
+        (bytes : List ℕ) (top : HandleParts)
+        → AllZip (IsPartOfTable (hashes f.hash64 f.hash128)) parts sources
+        → IsOrdered entries (joined (joined parts))
+        → IsCopiesLayout f (copied_parts sources) bytes top
+        → IsPartedFile (hashes f.hash64 f.hash128) parts bytes top }
+{
+    copied_layout_is_parted();
+}
+
+/// Parted tables, each ordered after the one before, whose parts are copied one after the other,
+/// are a parted table of all their parts.
+pub fn copied_tables_are_parted()
+    ensures { (f : Form) (tables : List CopiedTable) (bytes : List ℕ) (top : HandleParts)
+        → ((xs : List ℕ) → f.hash128 xs < 2 ^ 128)
+        → AllByRecursion (IsCopiedTable (hashes f.hash64 f.hash128)) tables
+        → IsOrdered entries (joined (joined (parts_of_tables tables)))
+        → IsCopiesLayout f (copied_parts (sources_of tables)) bytes top
+        → IsPartedFile (hashes f.hash64 f.hash128) (parts_of_tables tables) bytes top }
+{
+    index_check_is_by_stages();
+    index_block_is_read();
+    copied_parts_are_parted();
 }
 
 /// The file of a parted table is opened by its footer: the index of its parts is read, and a read

@@ -1,8 +1,9 @@
 //! Over `sstable_blocks` and `sst_merge`: parted tables, which are table files one after the other
 //! and an index over them, of which a read reads of one part the footer, the filter, the index and
-//! one block; scans of them from both ends, a part at a time, also over borrowed bytes without
-//! checks; tables of either kind, as sources and readers of merges; reads of many keys of a table,
-//! each block once; and caches of blocks and of open parts, which tables share.
+//! one block, and whose parts are copied into other tables as they are; scans of them from both
+//! ends, a part at a time, also over borrowed bytes without checks; tables of either kind, as
+//! sources and readers of merges; reads of many keys of a table, each block once; and caches of
+//! blocks and of open parts, which tables share.
 #![tactic(auto)]
 
 pub mod any_scan;
@@ -13,9 +14,11 @@ pub mod cached_parted;
 pub mod cached_table;
 pub mod checking;
 mod closed;
+pub mod copier;
 pub mod laws;
 mod part;
 pub mod part_cache;
+mod part_core;
 mod part_range;
 pub mod parted_ref;
 pub mod parts_reader;
@@ -33,6 +36,7 @@ pub use cache::Cache;
 pub use cached_parted::CachedParted;
 pub use cached_table::CachedTable;
 pub use checking::PartedSummary;
+pub use copier::PartCopier;
 pub use part_cache::{Numbers, PartCache};
 pub use parted_ref::PartedRef;
 pub use parts_reader::PartsReader;

@@ -1,24 +1,20 @@
 //! Writing a parted table, a block at a time.
-ghost use Rattle.std.specs.Prelude.{◌≡◌, ◌↔◌, ◌-◌, ◌++◌, ◌∷◌, [], ◌≤◌, IfErr, IfOk, IsErrOf};
-ghost use Rattle.std.specs.Prelude.{IsTrue, ℕ};
-ghost use Rattle.std.specs.Prelude.{OnErr, OnOk, if◌then◌else◌};
-ghost use Rattle.std.specs.Prelude.{None, length, map, true};
+ghost use Rattle.std.specs.Prelude.{◌≡◌, ◌↔◌, ◌++◌, ◌∷◌, [], ◌≤◌, IfErr, IfOk, IsErrOf};
+ghost use Rattle.std.specs.Prelude.{IsTrue, OnOk, length, map};
 ghost use Rattle.sst_parts.specs.PartWriting.{AddsTo, AppendsOpen, AppendsParted};
-ghost use Rattle.sst_parts.specs.PartWriting.{AppendsPartedFile, AreCut, EndFits, IsCurrent};
-ghost use Rattle.sst_parts.specs.PartWriting.{IsNextPart, NextFits, PartEnds, top_handles};
-ghost use Rattle.sst_parts.specs.PartWriting.{blocks_so_far, data_len, is_full, reaches};
+ghost use Rattle.sst_parts.specs.PartWriting.{AppendsPartedFile, AreCut, EndFits, NextFits};
+ghost use Rattle.sst_parts.specs.PartWriting.{blocks_so_far, top_handles};
 ghost use Rattle.sstable_blocks.specs.Results.{Io};
 ghost use Rattle.sstable_blocks.specs.Run.{IsWritable, form};
 ghost use Rattle.sstable_blocks.specs.RunReading.{hashes};
 ghost use Rattle.sstable_blocks.specs.Writing.{Follows, IsWriteRefusal};
 
-use crate::closed::{ClosedParts, PartEnd};
+use crate::closed::ClosedParts;
 use crate::laws::parted_layout_is_parted;
-use sstable_blocks::ghost_state::History;
-use sstable_blocks::run::{RunConfig, RunHandles, RunWriter, TableWriter, encode_footer};
-use sstable_blocks::{AsEntry, BlockHandle, BlockHash, InternalValue, Output, Result};
+use crate::part_core::{PartCore, fits_behind};
+use sstable_blocks::run::{RunConfig, RunHandles, TableWriter, encode_footer};
+use sstable_blocks::{AsEntry, BlockHandle, BlockHash, Output, Result};
 use std::alloc::Global;
-use std::collections::LinkedList;
 use std::marker::Model;
 
 /// Where the parts of a parted table end: a part ends as soon as it reaches one of these sizes,
@@ -31,79 +27,6 @@ pub struct PartSizes {
     pub bytes: u64,
 }
 
-// How much of a number of bytes is left after the keys and values of entries.
-fn spend<T: AsEntry>(left: u64, items: &[T]) -> u64
-    ensures { result ≡ left - data_len (map T.entry items.now) }
-{
-    let mut rest = left;
-    for item in items {
-        let entry = item.view();
-        let key_rest = rest.saturating_sub(entry.key_len() as u64);
-        rest = key_rest.saturating_sub(entry.value().len() as u64);
-    }
-    rest
-}
-
-// Whether a number reaches a limit, which 0 is none.
-fn reached(limit: usize, n: usize) -> bool
-    ensures { result ≡ reaches limit n }
-{
-    limit >= 1 && limit <= n
-}
-
-// The same of a number by how much of the limit it leaves.
-fn spent(limit: u64, left: u64) -> bool
-    ensures { (n : ℕ) → left ≡ limit - n → result ≡ reaches limit n }
-{
-    limit >= 1 && left == 0
-}
-
-// How many bytes are left to the part that the next block is added to, where the current one is
-// full or not.
-fn left_before(full: bool, bytes: u64, left: u64) -> u64
-    ensures { result ≡ (if full then bytes else left) }
-{
-    if full { bytes } else { left }
-}
-
-// The blocks of that part.
-fn blocks_before(
-    full: bool,
-    blocks: History<LinkedList<InternalValue>>,
-) -> History<LinkedList<InternalValue>>
-    ensures { result ≡ (if full then [] else blocks) }
-{
-    if full { History::new() } else { blocks }
-}
-
-// The parts closed, and the run that the next block is added to: the current part's, or, where that
-// is full, the next one's.
-fn next_part<H: BlockHash, W: Output + Drop>(
-    closed: ClosedParts<H>,
-    run: RunWriter<H, W>,
-    blocks: &History<LinkedList<InternalValue>>,
-    end: Option<PartEnd>,
-    full: bool,
-) -> Result<(ClosedParts<H>, RunWriter<H, W>)>
-    requires writable { IsWritable closed.config }
-    requires current { IsCurrent closed run blocks.now end }
-    requires some { full ≡ true → 1 ≤ length run.blocks }
-    ensures next { IfOk result (λ r. IsNextPart closed run full r.0 r.1) }
-    ensures full { OnErr result (full ≡ true) }
-    ensures reliable { IfOk result (λ r. W.never_fails run.writer → W.never_fails r.1.writer) }
-    ensures failed { IsErrOf result Io → W.never_fails run.writer → ⊥ }
-    ensures cause { IfErr result (IsWriteRefusal (PartEnds
-        (form H.hash64 H.hash128 closed.config) closed.parts run.blocks → ⊥)) }
-{
-    if !full {
-        return Ok((closed, run));
-    }
-    let Some(end) = end else { unreachable!() };
-    let (closed, writer) = closed.close(run, blocks, end)?;
-    let run = closed.next_run(writer);
-    Ok((closed, run))
-}
-
 /// Writes a parted table into a writer of bytes, a block at a time. What is kept are the handles of
 /// the blocks and the hashes of the keys of the part that is written, and a handle of each part
 /// before.
@@ -112,32 +35,26 @@ fn next_part<H: BlockHash, W: Output + Drop>(
 /// that is current, what the writer held when this was made, and the writer.
 #[derive(Drop)]
 pub struct PartWriter<H: BlockHash, W: Output> {
-    closed: ClosedParts<H>,
-    run: RunWriter<H, W>,
-    sizes: PartSizes,
-    // The blocks of the current part.
-    blocks: History<LinkedList<InternalValue>>,
-    // The last entry of the current part, if it has one.
-    end: Option<PartEnd>,
-    // The bytes that are left to the current part.
-    left: u64,
+    // Copies no part.
+    core: PartCore<H, W>,
 }
 
 impl<H: BlockHash, W: Output> Model for PartWriter<H, W> {
-    ghost use Rattle.sst_parts.specs.PartWriting.{IsOpenPart, PartWriting};
+    ghost use Rattle.sst_parts.specs.PartCopies.{AreCutBlocks, known_parts};
+    ghost use Rattle.sst_parts.specs.PartWriting.{PartWriting};
 
     ghost Value = { PartWriting W };
 
     ghost view = { λ w. record {
-      config = w.closed.config;
-      sizes = w.sizes;
-      parts = w.closed.parts;
-      current = w.run.blocks;
-      start = w.closed.start;
-      writer = w.run.writer;
+      config = w.core.config;
+      sizes = w.core.sizes;
+      parts = known_parts w.core.closed;
+      current = w.core.current;
+      start = w.core.start;
+      writer = w.core.writer;
     } };
 
-    ghost invariant = { λ w. IsOpenPart w.closed w.run w.sizes w.blocks w.end w.left };
+    ghost invariant = { λ w. AreCutBlocks w.core.sizes w.core.closed w.core.current };
 }
 
 impl<H: BlockHash, W: Output> PartWriter<H, W> {
@@ -154,13 +71,9 @@ impl<H: BlockHash, W: Output> PartWriter<H, W> {
           writer = writer;
         } }
     {
+        let closed = ClosedParts::new(alloc, &writer, config);
         PartWriter {
-            closed: ClosedParts::new(alloc, &writer, config),
-            run: RunWriter::new(alloc, writer, config),
-            sizes,
-            blocks: History::new(),
-            end: None,
-            left: sizes.bytes,
+            core: PartCore::new(closed, writer, sizes),
         }
     }
 
@@ -169,30 +82,21 @@ impl<H: BlockHash, W: Output> PartWriter<H, W> {
     pub fn fits_after<T: AsEntry>(&self, items: &[T]) -> bool
         ensures { IsTrue result ↔ Follows (blocks_so_far self.now) (map T.entry items.now) }
     {
-        self.run.fits_after(items)
+        fits_behind(&self.core.last_end(), items)
     }
 
     /// Returns whether a block was written.
     pub fn has_blocks(&self) -> bool
         ensures { IsTrue result ↔ (1 ≤ length self.now.current) }
     {
-        self.run.block_count() > 0
+        self.core.has_blocks()
     }
 
     // Tells that the parts are cut by the sizes.
     fn tell_cut(&self)
         ensures { AreCut self.now.sizes self.now.parts self.now.current }
     {
-        let _sizes = self.sizes;
-    }
-
-    // Whether the current part ends before the next block.
-    fn is_full(&self) -> bool
-        ensures { result ≡ is_full self.now.sizes self.now.current }
-    {
-        let by_blocks = reached(self.sizes.blocks, self.run.block_count());
-        let by_bytes = spent(self.sizes.bytes, self.left);
-        if by_blocks { true } else { by_bytes }
+        let _blocks = self.core.has_blocks();
     }
 }
 
@@ -205,8 +109,9 @@ impl<H: BlockHash, W: Output + Drop> PartWriter<H, W> {
     ///
     /// `Error::TooLong` only where a part that ends does not fit: its run as `write_run` says, its
     /// table file below 2^32 bytes, and the end of that below 2^64; or where the block does not
-    /// fit, as [`RunWriter::add_block`] says. `Error::Memory` if an allocation fails, `Error::Io`
-    /// if the writer fails. The writer is gone then, and may hold a partial write.
+    /// fit, as [`RunWriter::add_block`](sstable_blocks::run::RunWriter::add_block) says.
+    /// `Error::Memory` if an allocation fails, `Error::Io` if the writer fails. The writer is gone
+    /// then, and may hold a partial write.
     pub fn add_block<T: AsEntry>(self, items: &[T]) -> Result<PartWriter<H, W>>
         requires { Follows (blocks_so_far self) (map T.entry items.now) }
         ensures added { IfOk result (λ w. AddsTo self w (map T.entry items.now)) }
@@ -215,29 +120,8 @@ impl<H: BlockHash, W: Output + Drop> PartWriter<H, W> {
         ensures cause { IfErr result (IsWriteRefusal (NextFits
             (form H.hash64 H.hash128 self.config) self (map T.entry items.now) → ⊥)) }
     {
-        let last = self.closed.end_of(items)?;
-        let full = self.is_full();
-        let PartWriter {
-            closed,
-            run,
-            sizes,
-            blocks,
-            end,
-            left,
-        } = self;
-        let left = left_before(full, sizes.bytes, left);
-        let (closed, mut run) = next_part(closed, run, &blocks, end, full)?;
-        run.add_block(items)?;
-        let mut blocks = blocks_before(full, blocks);
-        blocks.push_chosen(&items);
-        Ok(PartWriter {
-            closed,
-            run,
-            sizes,
-            blocks,
-            end: Some(last),
-            left: spend(left, items),
-        })
+        let core = self.core.add_block(items)?;
+        Ok(PartWriter { core })
     }
 
     /// Ends the last part, and writes the index of the parts. Returns its handle, and the writer,
@@ -258,16 +142,7 @@ impl<H: BlockHash, W: Output + Drop> PartWriter<H, W> {
         ensures cause { IfErr result (IsWriteRefusal
             (EndFits (form H.hash64 H.hash128 self.config) self → ⊥)) }
     {
-        let PartWriter {
-            closed,
-            run,
-            sizes: _,
-            blocks,
-            end,
-            left: _,
-        } = self;
-        let Some(end) = end else { unreachable!() };
-        let (closed, mut writer) = closed.close(run, &blocks, end)?;
+        let (closed, mut writer) = self.core.close()?;
         let top = closed.write_top(&mut writer)?;
         Ok((top, writer))
     }
@@ -297,7 +172,7 @@ impl<H: BlockHash, W: Output + Drop> PartWriter<H, W> {
 }
 
 // The handles in the footer of a parted table, whose index has this handle.
-fn footer_handles(top: BlockHandle) -> RunHandles
+pub(crate) fn footer_handles(top: BlockHandle) -> RunHandles
     ensures { result ≡ top_handles top }
 {
     RunHandles {

@@ -15,6 +15,8 @@ mod cached;
 #[cfg(test)]
 mod cached_parts;
 #[cfg(test)]
+mod copied_parts;
+#[cfg(test)]
 mod many_keys;
 #[cfg(test)]
 mod merges;

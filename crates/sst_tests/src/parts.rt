@@ -24,7 +24,7 @@ fn versions(list: &mut Vec<InternalValue>, key: u8) -> sst_base::Result<()> {
 }
 
 // The versions of six keys.
-fn six_keys(alloc: Global) -> sst_base::Result<Vec<InternalValue>> {
+pub(crate) fn six_keys(alloc: Global) -> sst_base::Result<Vec<InternalValue>> {
     let mut list = Vec::new(alloc);
     for key in 0u8..6 {
         versions(&mut list, key * 2 + 1)?;
@@ -143,16 +143,16 @@ fn versions_are_found_in_borrowed_bytes(rt: HostRuntime) {
 }
 
 // A parted table in memory.
-type InMemory = PartedTable<ByteSum, MemorySource>;
+pub(crate) type InMemory = PartedTable<ByteSum, MemorySource>;
 
 // Opens the bytes of a parted table.
-fn open_bytes(alloc: Global, bytes: Vec<u8>) -> sst_base::Result<InMemory> {
+pub(crate) fn open_bytes(alloc: Global, bytes: Vec<u8>) -> sst_base::Result<InMemory> {
     let source = MemorySource::new(Slice::from_vec(bytes)?);
     Ok(InMemory::open_file(alloc, source)?)
 }
 
 // How many reads of a parted table of six keys give the wrong version.
-fn wrong_in(alloc: Global, table: &mut InMemory) -> sst_base::Result<u64> {
+pub(crate) fn wrong_in(alloc: Global, table: &mut InMemory) -> sst_base::Result<u64> {
     let mut wrong = 0u64;
     for key in 0u8..14 {
         wrong = wrong.saturating_add(wrong_of_key(alloc, table, key)?);
@@ -300,7 +300,7 @@ fn wrong_between<I: Ends + Drop>(
 }
 
 // How many steps of a scan of all keys are wrong.
-fn wrong_in_all(alloc: Global, table: InMemory, pattern: u64) -> sst_base::Result<u64> {
+pub(crate) fn wrong_in_all(alloc: Global, table: InMemory, pattern: u64) -> sst_base::Result<u64> {
     wrong_between(alloc, table.scan(), 0, 12, pattern)
 }
 

@@ -2,13 +2,16 @@
 use Rattle.std.proofs.Common.{◌≡◌, ℕ, ◌+◌, ◌-◌, ◌<◌, ◌≤◌, ◌||◌, ◌&&◌, Bool, true, false, cond, inl, inr, List, [], ◌∷◌, ◌++◌, length, take, refl, arith, sym, ◌∙◌, ap, subst, append_assoc, length-append, Option, Some, None}
 use Rattle.std.proofs.lemmas.Bool.{cases_Bool, cases_lt}
 use Rattle.std.proofs.lemmas.Bool.Decides.{nat_tests}
-use Rattle.std.proofs.lemmas.List.{append-nil, length_push, take-append-le, take_all}
+use Rattle.std.proofs.lemmas.List.{append-nil, length_push, map-append, take-append-le, take_all}
 use Rattle.std.proofs.lemmas.List.Sums.{sum_by-append}
 use Rattle.std.specs.Prelude.{nat_le}
 use Rattle.std.specs.declared.cmp.Ordering.{Ordering}
 use Rattle.sstable_blocks.specs.Prelude.{Entry, IsInOrder, entries, IsOrdered, item_cmp}
-use Rattle.sst_parts.specs.PartWriting.{AreCut, ClosedView, IsEndOf, IsFirstFull, IsLastOf, IsNextPart, IsOpenPart, data_len, is_full, reaches}
+use Rattle.sst_parts.specs.PartCopies.{ClosedView, IsLastKey, IsNextPart, IsOpenPart, known_blocks, known_parts}
+use Rattle.sst_parts.specs.PartWriting.{AreCut, IsFirstFull, IsLastOf, data_len, is_full, reaches}
 use Rattle.sst_parts.specs.declared.closed.PartEnd.{PartEnd}
+use Rattle.sst_parts.specs.declared.closed.PartOrigin.{PartOrigin}
+use Rattle.sst_parts.specs.declared.closed.PartOrigin.TheVariants.{Made}
 use Rattle.sst_parts.specs.declared.writer.PartSizes.{PartSizes}
 use Rattle.sst_parts.proofs.Writing.Joins.{joined-append}
 use Rattle.sstable_blocks.specs.EndLaws.{all_push, back_in_order}
@@ -21,17 +24,6 @@ pub full_by : (sizes : PartSizes) (blocks : List (List Entry)) (a b : Bool) → 
 unfolding is_full
 full_by sizes blocks a b e h = ap (λ x. x || reaches sizes.bytes (data_len (joined blocks))) (sym e) ∙ ap (λ x. a || x) (sym h)
 
--- two ordered lists that share a list between them
-glue : {X : Type 0} (cmp : X → X → Ordering) (xs : List X) (b : X) (bs cs : List X) → IsInOrder cmp (xs ++ b ∷ bs) → IsInOrder cmp ((b ∷ bs) ++ cs) → IsInOrder cmp (xs ++ ((b ∷ bs) ++ cs))
-glue cmp [] b bs cs h k = k
-glue cmp (a ∷ []) b bs cs h k = (h.0, k)
-glue cmp (a ∷ a' ∷ xs) b bs cs h k = (h.0, glue cmp (a' ∷ xs) b bs cs h.1 k)
-
-glue_last : (xs bs cs front : List Entry) (x : Entry) → bs ≡ front ++ x ∷ [] → IsOrdered entries (xs ++ bs) → IsOrdered entries (bs ++ cs) → IsOrdered entries (xs ++ (bs ++ cs))
-glue_last xs [] cs [] x e h k = cc
-glue_last xs [] cs (y ∷ ys) x e h k = cc
-glue_last xs (b ∷ bs) cs front x e h k = glue (item_cmp entries) xs b bs cs h k
-
 module _ (parts : List (List (List Entry))) (blocks : List (List Entry)) (items : List Entry) where
   whole : joined ((joined parts ++ blocks) ++ items ∷ []) ≡ joined (joined parts) ++ (joined blocks ++ items)
   whole = joined_push (joined parts ++ blocks) items ∙ ap (λ xs. xs ++ items) (joined-append (joined parts) blocks) ∙ append_assoc (joined (joined parts)) (joined blocks) items
@@ -41,16 +33,6 @@ module _ (parts : List (List (List Entry))) (blocks : List (List Entry)) (items 
   follows_part f = record {
     some = f.some;
     ordered = subst (IsOrdered entries) (sym (joined_push blocks items)) (back_in_order (item_cmp entries) (joined (joined parts)) (joined blocks ++ items) (subst (IsOrdered entries) whole f.ordered));
-  }
-
-  -- and the other way round
-  pub follows_all : (end : Option PartEnd) → IsEndOf blocks end → (blocks ≡ [] → parts ≡ []) → IsOrdered entries (joined (joined parts ++ blocks)) → Follows blocks items → Follows (joined parts ++ blocks) items
-  follows_all None end first ordered f =
-      let none : joined parts ++ blocks ≡ blocks = ap (λ ps. joined ps ++ blocks) (first end) in
-      subst (λ bs. Follows bs items) (sym none) f
-  follows_all (Some e) end first ordered f = record {
-    some = f.some;
-    ordered = subst (IsOrdered entries) (sym whole) (glue_last (joined (joined parts)) (joined blocks) items end.1.front end.1.last end.1.whole (subst (IsOrdered entries) (joined-append (joined parts) blocks) ordered) (subst (IsOrdered entries) (joined_push blocks items) f.ordered));
   }
 
 -- the parts with the current one, in order
@@ -92,6 +74,12 @@ last_behind blocks items key seqno l = record {
   short = l.short;
 }
 
+-- and that of blocks behind others
+pub last_key_behind : (before blocks : List (List Entry)) (key : List ℕ) (seqno : ℕ) → IsLastOf (joined blocks) key seqno → IsLastKey (joined (before ++ blocks)) (Some (key, seqno))
+last_key_behind before blocks key seqno l =
+    let whole : joined (before ++ blocks) ≡ (joined before ++ l.front) ++ l.last ∷ [] = joined-append before blocks ∙ ap (λ xs. joined before ++ xs) l.whole ∙ sym (append_assoc (joined before) l.front (l.last ∷ [])) in
+    (joined before ++ l.front, l.last, whole, l.key_is, l.seqno_is)
+
 data_len-append : (xs ys : List Entry) → data_len (xs ++ ys) ≡ data_len xs + data_len ys
 data_len-append xs ys = sum_by-append (λ (e : Entry). length e.key.user_key + length e.value) xs ys
 
@@ -127,14 +115,24 @@ cut_next sizes true parts blocks b cut full = record {
 }
 cut_next sizes false parts blocks b cut more = record { full = cut.full; first = first_more sizes blocks b cut.first more; none = λ no. absurd (let some = ap length no in let l = length_push blocks b in omega (arith, some, l)) }
 
+-- what is known of the parts closed, with one part of blocks more
+pub known_push : (closed : List PartOrigin) (blocks : List (List Entry)) → known_parts (closed ++ Made blocks ∷ []) ≡ known_parts closed ++ blocks ∷ []
+known_push closed blocks = map-append known_blocks closed (Made blocks ∷ [])
+
+pub known_next : (full : Bool) (closed : List PartOrigin) (blocks : List (List Entry)) → known_parts (cond full (closed ++ Made blocks ∷ []) closed) ≡ cond full (known_parts closed ++ blocks ∷ []) (known_parts closed)
+known_next true closed blocks = known_push closed blocks
+known_next false closed blocks = refl
+
 -- what is kept of the current part after one block more
-pub open_next : {W : Type 0} (closed closed' : ClosedView) (run run' run'' : Writing W) (sizes : PartSizes) (full : Bool) (blocks blocks' : List (List Entry)) (end : Option PartEnd) (left left' : ℕ) (items : List Entry) (last : PartEnd) → is_full sizes run.blocks ≡ full
-    → IsOpenPart closed run sizes blocks end left → IsNextPart closed run full closed' run' → IsSameRun run' run'' → run''.refusal ≡ None → run''.blocks ≡ run'.blocks ++ items ∷ [] → Follows (joined closed.parts ++ run.blocks) items → IsLastOf items last.key last.seqno
+pub open_next : {W : Type 0} (closed closed' : ClosedView) (run run' run'' : Writing W) (sizes : PartSizes) (full : Bool) (blocks blocks' : List (List Entry)) (end : Option PartEnd) (left left' : ℕ) (items : List Entry) (last : PartEnd)
+    → IsOpenPart closed run sizes blocks end left → IsNextPart closed run full closed' run' → IsSameRun run' run'' → run''.refusal ≡ None → run''.blocks ≡ run'.blocks ++ items ∷ [] → Follows (joined (known_parts closed.parts) ++ run.blocks) items → IsLastOf items last.key last.seqno
     → blocks' ≡ cond full [] blocks ++ items ∷ [] → left' ≡ cond full sizes.bytes left - data_len items → IsOpenPart closed' run'' sizes blocks' (Some last) left'
-open_next closed closed' run run' run'' sizes full blocks blocks' end left left' items last is o n same accepting more follows is_last blocks_is left_is =
+open_next closed closed' run run' run'' sizes full blocks blocks' end left left' items last o n same accepting more follows is_last blocks_is left_is =
+    let known = known_parts closed.parts in
     let now : run''.blocks ≡ cond full [] run.blocks ++ items ∷ [] = more ∙ ap (λ bs. bs ++ items ∷ []) n.blocks in
-    let all : (joined closed.parts ++ run.blocks) ++ items ∷ [] ≡ joined closed'.parts ++ run''.blocks =
-    ap (λ bs. bs ++ items ∷ []) (sym (ap (λ ps. joined ps ++ cond full [] run.blocks) n.parts ∙ same_blocks full closed.parts run.blocks)) ∙ append_assoc (joined closed'.parts) (cond full [] run.blocks) (items ∷ []) ∙ ap (λ bs. joined closed'.parts ++ bs) (sym now) in
+    let parts : known_parts closed'.parts ≡ cond full (known ++ run.blocks ∷ []) known = ap known_parts n.parts ∙ known_next full closed.parts run.blocks in
+    let all : (joined known ++ run.blocks) ++ items ∷ [] ≡ joined (known_parts closed'.parts) ++ run''.blocks =
+    ap (λ bs. bs ++ items ∷ []) (sym (ap (λ ps. joined ps ++ cond full [] run.blocks) parts ∙ same_blocks full known run.blocks)) ∙ append_assoc (joined (known_parts closed'.parts)) (cond full [] run.blocks) (items ∷ []) ∙ ap (λ bs. joined (known_parts closed'.parts) ++ bs) (sym now) in
     record {
       writable = subst IsWritable (sym n.config) o.writable;
       current = record {
@@ -144,6 +142,5 @@ open_next closed closed' run run' run'' sizes full blocks blocks' end left left'
         end_is = subst (λ bs. (1 ≤ length bs) × IsLastOf (joined bs) last.key last.seqno) (sym now) (some_behind (cond full [] run.blocks) items, last_behind (cond full [] run.blocks) items last.key last.seqno is_last);
       };
       left_is = left_behind full sizes.bytes left left' run.blocks items o.left_is left_is ∙ ap (λ bs. sizes.bytes - data_len (joined bs)) (sym now);
-      cut = subst (λ (ps : List (List (List Entry))). AreCut sizes ps run''.blocks) (sym n.parts) (subst (AreCut sizes (cond full (closed.parts ++ run.blocks ∷ []) closed.parts)) (sym now) (cut_next sizes full closed.parts run.blocks items o.cut is));
       ordered = subst (λ bs. IsOrdered entries (joined bs)) all follows.ordered;
     }

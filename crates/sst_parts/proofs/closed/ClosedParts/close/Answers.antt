@@ -1,6 +1,7 @@
 use Rattle.std.proofs.Common.{◌≡◌, ◌+◌, ℕ, Option, List, ap, ◌∙◌, sym, subst}
 use Rattle.sst_parts.proofs.Writing.Closings.{fits_next, one_closed}
-use Rattle.sst_parts.specs.PartWriting.{AppendsPart, ClosedView, PartEnds, PartFileFits}
+use Rattle.sst_parts.specs.PartCopies.{ClosedEnds, ClosedView}
+use Rattle.sst_parts.specs.PartWriting.{AppendsPart, PartFileFits}
 use Rattle.std.proofs.lemmas.Result.{err_from_is_err_and}
 use Rattle.sstable_blocks.specs.Run.{form}
 use Rattle.sstable_blocks.specs.RunLaws.{refusal_on}
@@ -28,4 +29,4 @@ returns-in_err-handle-clause-cause g c =
     let r = err_from_is_err_and c.from_residual.result c.from_residual.ensures.1 in
     let refused = subst (λ (k : RunConfig). IsWriteRefusal (PartFileFits (form g.H.BlockHash.hash64 g.H.BlockHash.hash128 k) i.offset blocks → ⊥) c.in_err-handle.field-0.0) config c.in_err-handle.ensures.cause in
     let wrong = refusal_on _ _ _ refused (λ no ends. no (fits_next f i.parts i.start i.after i.tops.items i.offset c.self.invariant blocks ends)) in
-    rw (r.1, r.2) (subst (λ (v : ClosedView). IsWriteRefusal (PartEnds (form g.H.BlockHash.hash64 g.H.BlockHash.hash128 v.config) v.parts blocks → ⊥) c.in_err-handle.field-0.0) c.self.view_is wrong)
+    rw (r.1, r.2) (subst (λ (v : ClosedView). IsWriteRefusal (ClosedEnds (form g.H.BlockHash.hash64 g.H.BlockHash.hash128 v.config) v.parts blocks → ⊥) c.in_err-handle.field-0.0) c.self.view_is wrong)
