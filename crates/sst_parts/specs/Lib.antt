@@ -10,6 +10,5 @@ pub mod PartKinds
 pub mod PartChecks
 pub mod PartFinds
 pub mod RefScans
-
 pub mod StoredParts
 pub mod StoredLaws
