@@ -46,10 +46,20 @@ fn data_count<H: BlockHash>(alloc: Global, payload: &[u8], tabled: bool) -> Chec
     Ok(data_block::<H>(alloc, payload, tabled)?.len())
 }
 
+/// The result of a check that counts items.
+fn counted(checked: sst_base::Result<usize>) -> Checked {
+    match checked {
+        Ok(count) => Ok(count),
+        Err(error) => Err(Fault::Refused(error)),
+    }
+}
+
 /// The check that borrows a data block.
 fn data_by_ref<H: BlockHash>(alloc: Global, payload: &[u8]) -> Checked {
-    let block = block_with(alloc, BlockType::Data, payload)?;
-    Ok(DataBlock::<H>::check_ref(alloc, &block)?)
+    match block_with(alloc, BlockType::Data, payload) {
+        Ok(block) => counted(DataBlock::<H>::check_ref(alloc, &block)),
+        Err(fault) => Err(fault),
+    }
 }
 
 /// The check of bytes that are lent as a data block.
@@ -74,8 +84,10 @@ fn index_count(alloc: Global, payload: &[u8], tabled: bool) -> Checked {
 
 /// The check that borrows an index block.
 fn index_by_ref(alloc: Global, payload: &[u8]) -> Checked {
-    let block = block_with(alloc, BlockType::Index, payload)?;
-    Ok(IndexBlock::check_ref(&block)?)
+    match block_with(alloc, BlockType::Index, payload) {
+        Ok(block) => counted(IndexBlock::check_ref(&block)),
+        Err(fault) => Err(fault),
+    }
 }
 
 /// The check of bytes that are lent as an index block.
@@ -201,7 +213,7 @@ fn cuts<H: BlockHash>(alloc: Global, room: &Room, words: &[&str]) -> Result<Stri
     let (kind, payload) = (kind_of(kind)?, room.payload.as_slice());
     let mut results = Results::new();
     for end in 0..payload.len() {
-        results.add::<H>(alloc, payload.get(..end).ok_or(Fault::Word)?, kind)?;
+        results.add::<H>(alloc, &payload[..end], kind)?;
     }
     results.text(alloc)
 }

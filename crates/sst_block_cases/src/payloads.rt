@@ -21,8 +21,10 @@ fn bytes(alloc: Global, room: &Room, words: &[&str]) -> Result<String> {
         return Err(Fault::Word);
     };
     let (offset, count) = (number_of(offset)? as usize, number_of(count)? as usize);
-    let end = offset.checked_add(count).ok_or(Fault::Word)?;
-    hex_of(alloc, room.payload.get(offset..end).ok_or(Fault::Word)?)
+    match room.payload.get(offset..offset.saturating_add(count)) {
+        Some(bytes) => hex_of(alloc, bytes),
+        None => Err(Fault::Word),
+    }
 }
 
 /// The hash FNV-1a of the payload.

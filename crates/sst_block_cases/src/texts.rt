@@ -57,7 +57,9 @@ pub fn agreed(alloc: Global, found: &[Result<String>]) -> Result<String> {
     if is_refused(found) {
         return Err(Fault::Refused(Error::Memory));
     }
-    let first = found.first().ok_or(Fault::Word)?;
+    let Some(first) = found.first() else {
+        return Err(Fault::Word);
+    };
     for answer in found {
         if answer != first {
             return all_of(alloc, found);

@@ -140,16 +140,30 @@ pub fn entry_with(
 pub type Parts<'a> = (&'a str, &'a str, &'a str, &'a str);
 
 /// Returns the parts of a word of four that are joined by dots.
-pub fn parts_of(word: &str) -> Option<Parts<'_>> {
-    let (first, rest) = word.split_once('.')?;
-    let (second, rest) = rest.split_once('.')?;
-    let (third, fourth) = rest.split_once('.')?;
-    Some((first, second, third, fourth))
+pub fn parts_of(word: &str) -> Result<Parts<'_>> {
+    let Some((first, rest)) = word.split_once('.') else {
+        return Err(Fault::Word);
+    };
+    let Some((second, rest)) = rest.split_once('.') else {
+        return Err(Fault::Word);
+    };
+    match rest.split_once('.') {
+        Some((third, fourth)) => Ok((first, second, third, fourth)),
+        None => Err(Fault::Word),
+    }
+}
+
+/// Returns the parts of a word of two that are joined by this character.
+pub fn pair_of(word: &str, joint: char) -> Result<(&str, &str)> {
+    match word.split_once(joint) {
+        Some(pair) => Ok(pair),
+        None => Err(Fault::Word),
+    }
 }
 
 /// Returns the entry that a word encodes: letter, sequence number, key and value, joined by dots.
 pub fn entry_of(alloc: Global, word: &str) -> Result<InternalValue> {
-    let (letter, seqno, key, value) = parts_of(word).ok_or(Fault::Word)?;
+    let (letter, seqno, key, value) = parts_of(word)?;
     let (seqno, value_type) = (number_of(seqno)?, type_of(letter)?);
     let (key, value) = (bytes_of(alloc, key)?, bytes_of(alloc, value)?);
     entry_with(alloc, key.as_slice(), value.as_slice(), seqno, value_type)

@@ -142,7 +142,7 @@ pub fn parts(alloc: Global, words: &[&str]) -> Result<String> {
     let [word] = words else {
         return Err(Fault::Word);
     };
-    let (letter, seqno, key, value) = parts_of(word).ok_or(Fault::Word)?;
+    let (letter, seqno, key, value) = parts_of(word)?;
     let (seqno, value_type) = (number_of(seqno)?, type_of(letter)?);
     let (key, value) = (bytes_of(alloc, key)?, bytes_of(alloc, value)?);
     let parts = EntryView::of_parts(key.as_slice(), value.as_slice(), seqno, value_type);

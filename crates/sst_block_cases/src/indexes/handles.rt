@@ -16,7 +16,7 @@ const MAX_KEY_LEN: usize = 65535;
 /// Returns the handle that a word encodes: sequence number, end key, offset and size, joined by
 /// dots.
 fn handle_of(alloc: Global, word: &str) -> Result<KeyedBlockHandle> {
-    let (seqno, key, offset, size) = parts_of(word).ok_or(Fault::Word)?;
+    let (seqno, key, offset, size) = parts_of(word)?;
     let (seqno, offset) = (number_of(seqno)?, number_of(offset)?);
     let handle = BlockHandle::new(BlockOffset(offset), size_of(size)?);
     let key = bytes_of(alloc, key)?;

@@ -7,7 +7,9 @@ use crate::fault::{Fault, Result};
 use crate::indexes::handles::word_of;
 use crate::indexes::index_block;
 use crate::room::Room;
-use crate::words::{Row, alike, bytes_of, number_of, push_word, repeated, slice_of, truth};
+use crate::words::{
+    Row, alike, bytes_of, number_of, pair_of, push_word, repeated, slice_of, truth,
+};
 use sst_base::Slice;
 use sst_base::table::block::BlockHandle;
 use sst_block_core::table::index_block::{Answer, HandleView, HandleViews, IndexOp, Iter, walk};
@@ -23,8 +25,8 @@ fn op_of(alloc: Global, word: &str) -> Result<IndexOp> {
     if word == "back" {
         return Ok(IndexOp::NextBack);
     }
-    let (name, rest) = word.split_once(':').ok_or(Fault::Word)?;
-    let (key, seqno) = rest.split_once(':').ok_or(Fault::Word)?;
+    let (name, rest) = pair_of(word, ':')?;
+    let (key, seqno) = pair_of(rest, ':')?;
     let seqno = number_of(seqno)?;
     match name {
         "seek" => Ok(IndexOp::Seek(slice_of(alloc, key)?, seqno)),
@@ -228,7 +230,7 @@ fn joined(alloc: Global, words: &[String]) -> Result<String> {
 
 /// A bound of a word: a key, `:` and a sequence number.
 fn bound_of(alloc: Global, word: &str) -> Result<Bound> {
-    let (key, seqno) = word.split_once(':').ok_or(Fault::Word)?;
+    let (key, seqno) = pair_of(word, ':')?;
     Ok((bytes_of(alloc, key)?, number_of(seqno)?))
 }
 
