@@ -1,5 +1,5 @@
 -- Laws of stored tables, parted or of either kind, as readers.
-use Rattle.std.proofs.Common.{◌≡◌, ℕ, ◌<◌, ◌^◌, arith, map, List, Option, Some, None, Ok, sym, ap, subst, ◌∙◌}
+use Rattle.std.proofs.Common.{◌≡◌, ℕ, ◌<◌, ◌≤◌, ◌^◌, arith, map, List, Option, Some, None, Ok, sym, ap, subst, ◌∙◌}
 use Rattle.std.proofs.lemmas.Bool.{ltb-true}
 use Rattle.std.specs.Option.{option_map, IfSome}
 use Rattle.std.specs.Prelude.{nat_lt, ◌&&◌}
@@ -9,7 +9,7 @@ use Rattle.sstable_blocks.specs.Prelude.{IsBytes, Counted, CountsBetween, Entry,
 use Rattle.sstable_blocks.specs.Results.{BadHandle}
 use Rattle.sstable_blocks.specs.RunReading.{Hashes}
 use Rattle.sstable_blocks.specs.Scans.{handles_within, within}
-use Rattle.sst_merge.specs.Stored.{all_keys, are_bytes, known_reads}
+use Rattle.sst_merge.specs.Stored.{all_keys, are_bytes, checked_list, known_reads}
 use Rattle.sst_merge.specs.StoredLaws.{known_all}
 use Rattle.sst_merge.specs.TableReads.{bytes_by, checked_by, checked_ordered, table_ordered, within_all}
 use Rattle.sst_parts.specs.PartChecks.{check_parted}

@@ -1,15 +1,17 @@
 -- A table is opened in stages: what is read first, then by that the rest.
-use Rattle.std.proofs.Common.{◌≡◌, ◌≢◌, ℕ, inl, inr, ◌<◌, ◌≤◌, List, Option, Some, None, IfSome, Result, Ok, Err, arith, refl, sym, ◌∙◌, ap, subst, slice_index}
+use Rattle.std.proofs.Common.{◌≡◌, ◌≢◌, ℕ, inl, inr, ◌<◌, ◌≤◌, List, Option, Some, None, IfSome, IfErr, Result, Ok, Err, arith, refl, sym, ◌∙◌, ap, subst, Bool, true, false, if◌then◌else◌, slice_index, nat_eq}
 use Rattle.std.specs.Prelude.{MatchResult}
 use Rattle.sstable_blocks.specs.BlockTypes.{BlockType, Data, Index, Filter, Meta}
-use Rattle.sstable_blocks.specs.Prelude.{HandleParts, block_type_of}
-use Rattle.sstable_blocks.specs.Results.{◌>>=◌, Error}
-use Rattle.sst_parts.specs.AnyTables.{AnyKept, OpensAs, any_by_type, header_place, kept_in, plain_by, type_at, type_frames}
+use Rattle.sstable_blocks.specs.Prelude.{HandleParts, Handle, block_type_of}
+use Rattle.sstable_blocks.specs.Results.{◌>>=◌, Error, BadHandle, InvalidTag, Io}
+use Rattle.sst_parts.specs.AnyTables.{AnyKept, OpensAs, any_by_type, header_place, kept_in, parted, parted_by, plain, plain_by, type_at, type_frames}
+use Rattle.sst_parts.specs.Parts.{tops_at}
 use Rattle.sst_parts.specs.declared.any_table.AnyTable.{AnyTable}
 use Rattle.sstable_blocks.specs.FrameCounts.{open_frames}
 use Rattle.sstable_blocks.specs.RunReading.{Hashes, range_at}
 use Rattle.sstable_blocks.specs.SourceLaws.{source_fails}
 use Rattle.sstable_blocks.specs.Sources.{AsksFor, FailsAs, GivesOr}
+use Rattle.sstable_blocks.specs.Tables.{kept_of}
 use Rattle.sstable_blocks.specs.declared.run.RunHandles.{RunHandles}
 use Rattle.sstable_blocks.specs.declared.run.table.OpenError.{OpenError}
 
