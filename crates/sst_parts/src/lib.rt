@@ -1,7 +1,8 @@
 //! Over `sstable_blocks`: parted tables, which are table files one after the other and an index
 //! over them, of which a read reads of one part the footer, the filter, the index and one block,
-//! and whose parts are copied into other tables as they are; scans of them from both ends, a part at a time, also over borrowed bytes without checks; reads
-//! of many keys of a table, each block once; and a cache of blocks, which tables share.
+//! and whose parts are copied into other tables as they are; scans of them from both ends, a part
+//! at a time, also over borrowed bytes without checks; reads of many keys of a table, each block
+//! once; and a cache of blocks, which tables share.
 #![tactic(auto)]
 
 pub mod any_scan;
