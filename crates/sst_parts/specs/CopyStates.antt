@@ -1,6 +1,6 @@
 -- Where a writer of a parted table that copies parts is: between parts, or in a part of blocks.
 use Rattle.std.specs.Prelude.{ℕ, ◌≤◌, List, [], length, Option}
-use Rattle.sst_parts.specs.PartCopies.{ClosedView, IsBetween, PartsSoFar}
+use Rattle.sst_parts.specs.PartCopies.{IsBetween, PartsSoFar}
 use Rattle.sst_parts.specs.declared.copier.CopyState.{CopyState}
 use Rattle.sst_parts.specs.declared.copier.CopyState.TheVariants.{Between, Open}
 

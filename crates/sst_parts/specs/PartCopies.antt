@@ -6,7 +6,7 @@ use Rattle.std.specs.List.{AllByRecursion, AllZip}
 use Rattle.std.specs.Ordering.{nat_cmp, ordering_then}
 use Rattle.std.specs.declared.cmp.Ordering.TheVariants.{Less}
 use Rattle.sstable_blocks.specs.ValueTypes.{Value}
-use Rattle.sstable_blocks.specs.Prelude.{HandleParts, Entry, frame, entries, Handle, handles, IsIndexBlock, index_payload, IsOrdered}
+use Rattle.sstable_blocks.specs.Prelude.{HandleParts, Entry, frame, entries, Handle, IsIndexBlock, index_payload, IsOrdered}
 use Rattle.sstable_blocks.specs.BlockTypes.{Meta}
 use Rattle.sst_parts.specs.Parts.{IsParted, IsStoredPart, tops_at}
 use Rattle.sst_parts.specs.PartWriting.{AppendsPartedFile, AreCut, AreFiles, IsEndOf, IsPartFile, PartFileFits, current_before, data_len, is_full, top_handles}

@@ -1,5 +1,5 @@
 -- A parted table that is being written.
-use Rattle.std.specs.Prelude.{◌≡◌, ℕ, ◌+◌, ◌-◌, ◌≤◌, ◌<◌, ◌^◌, ◌&&◌, ◌||◌, Bool, false, true, nat_le, if◌then◌else◌, List, [], ◌∷◌, ◌++◌, length, take, sum_by, Option, None, Some, Ok}
+use Rattle.std.specs.Prelude.{◌≡◌, ℕ, ◌+◌, ◌≤◌, ◌<◌, ◌^◌, ◌&&◌, ◌||◌, Bool, false, true, nat_le, if◌then◌else◌, List, [], ◌∷◌, ◌++◌, length, take, sum_by, Option, None, Some, Ok}
 use Rattle.std.specs.Io.KnownBytes.{Appends}
 use Rattle.std.specs.List.{AllByRecursion}
 use Rattle.sstable_blocks.specs.Prelude.{HandleParts, Entry, frame, entries, Handle, handles, IsIndexBlock, index_payload, IsOrdered}
@@ -10,9 +10,9 @@ use Rattle.sst_parts.specs.declared.writer.PartSizes.{PartSizes}
 use Rattle.sstable_blocks.specs.Blocks.{joined}
 use Rattle.sstable_blocks.specs.Footer.{footer, table_handles}
 use Rattle.sstable_blocks.specs.Lookup.{IsEnd}
-use Rattle.sstable_blocks.specs.Run.{Form, IsLayout, IsWritable, RunFits, block_frames}
+use Rattle.sstable_blocks.specs.Run.{Form, IsLayout, RunFits, block_frames}
 use Rattle.sstable_blocks.specs.RunReading.{Hashes}
-use Rattle.sstable_blocks.specs.Writing.{FrameFits, IsTable, PartFits, Writing}
+use Rattle.sstable_blocks.specs.Writing.{FrameFits, IsTable, PartFits}
 use Rattle.sstable_blocks.specs.declared.run.RunConfig.{RunConfig}
 use Rattle.sstable_blocks.specs.declared.run.RunHandles.{RunHandles}
 

@@ -217,7 +217,8 @@ impl<'a, H: BlockHash> PartedRef<'a, H> {
 
     // The index of the parts.
     pub(crate) fn index(&self) -> &IndexBlockRef<'a>
-        ensures { result.now.items ≡ self.now.tops }
+        ensures items { result.now.items ≡ self.now.tops }
+        ensures interval { result.now.interval ≡ self.now.interval }
     {
         &self.index
     }
@@ -230,20 +231,24 @@ impl<'a, H: BlockHash> PartedRef<'a, H> {
         let _bytes = self.bytes;
     }
 
-    // Scans the part at an index: its entries between two bounds.
+    // Scans the part at an index: its entries between two bounds. The handles that are decoded are
+    // added to `steps`.
     pub(crate) fn scan_part<'k>(
         &self,
         index: usize,
         from: Bound<&'k [u8]>,
         to: Bound<&'k [u8]>,
+        steps: &mut Steps,
     ) -> RunScan<'a, 'k, H>
         requires { index < length self.now.tops }
-        ensures { (h : Handle) → slice_get self.now.tops index ≡ Some h
+        ensures looked { steps.old.heads ≡ steps.new.heads }
+        ensures decoded { steps.old.entries + 1 ≤ steps.new.entries }
+        ensures left { (h : Handle) → slice_get self.now.tops index ≡ Some h
             → result.left ≡ entries_read (part_reads (hashes H.hash64 H.hash128) self.now.source
             (range_by (λ k. k.now) from.entry to.entry) h) }
     {
         parted_parts_are_scanned();
-        let part = self.index.handle_at(index, &mut Steps::new());
+        let part = self.index.handle_at(index, steps);
         run_of::<H>(self.bytes, &part).scan_range(from, to)
     }
 }

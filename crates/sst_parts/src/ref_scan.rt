@@ -1,13 +1,17 @@
 //! Scans of parted tables over borrowed bytes: the entries within a range of keys, from both ends,
 //! a part at a time, without checks and without memory.
-ghost use Rattle.std.specs.Prelude.{◌≡◌, ◌++◌, ◌<◌, ◌≤◌, [], false, length, nat_lt, refl};
+ghost use Rattle.std.specs.Prelude.{◌≡◌, ◌+◌, ◌++◌, ◌<◌, ◌≤◌, [], None, false, length};
+ghost use Rattle.std.specs.Prelude.{nat_lt, refl};
 ghost use Rattle.std.specs.Iterator.{YieldsFirst, YieldsLast, item_count};
 ghost use Rattle.std.specs.declared.ops.Bound.TheVariants.{Unbounded};
 ghost use Rattle.sst_parts.specs.RefScans.{BeginsRefScan, RefScansFirst, RefScansLast, left_from};
-ghost use Rattle.sst_parts.specs.RefScans.{opened_left, unreached_entries};
+ghost use Rattle.sst_parts.specs.RefScans.{counted_by, opened_counts, opened_left};
+ghost use Rattle.sst_parts.specs.RefScans.{unreached_entries};
 ghost use Rattle.sstable_blocks.specs.BlockReading.{seen_from};
+ghost use Rattle.sstable_blocks.specs.Prelude.{found_item};
 ghost use Rattle.sstable_blocks.specs.RunReading.{hashes};
 ghost use Rattle.sstable_blocks.specs.Scans.{handles_within, range_by};
+ghost use Rattle.sstable_blocks.specs.Tallies.{Adds, IsUpTo, search_cost, tally_by};
 
 use crate::laws::parted_is_scanned;
 use crate::part_range::{parts_within, take_index};
@@ -15,9 +19,20 @@ use crate::parted_ref::PartedRef;
 use sstable_blocks::double_ended_peekable::ListIterator;
 use sstable_blocks::run::RunScan;
 use sstable_blocks::run::ends::Between;
-use sstable_blocks::{BlockHash, EntryView, InternalValue};
+use sstable_blocks::{BlockHash, EntryView, InternalValue, Steps};
 use std::marker::Model;
 use std::ops::Bound;
+
+// Adds what was counted of a part, if it was opened.
+fn add_opened<H: BlockHash>(steps: &mut Steps, opened: &Option<RunScan<'_, '_, H>>)
+    ensures heads { steps.new.heads ≡ steps.old.heads + (opened_counts opened.now).heads }
+    ensures entries { steps.new.entries
+        ≡ steps.old.entries + (opened_counts opened.now).entries }
+{
+    if let Some(scan) = opened {
+        steps.add(&scan.steps());
+    }
+}
 
 // Takes the first entry left of a part, or the last one, if there is one.
 #[inline(always)]
@@ -25,7 +40,8 @@ fn take_from<'a, 'k, H: BlockHash>(
     scan: &mut RunScan<'a, 'k, H>,
     back: bool,
 ) -> Option<EntryView<'a>>
-    ensures { YieldsFirst (seen_from back) scan.old.left result scan.new.left }
+    ensures first { YieldsFirst (seen_from back) scan.old.left result scan.new.left }
+    ensures looked { Adds scan.old.counted scan.new.counted (found_item result) }
 {
     if back { scan.next_back() } else { scan.next() }
 }
@@ -36,8 +52,10 @@ fn take_of<'a, 'k, H: BlockHash>(
     opened: &mut Option<RunScan<'a, 'k, H>>,
     back: bool,
 ) -> Option<EntryView<'a>>
-    ensures { YieldsFirst (seen_from back) (opened_left opened.old) result
+    ensures first { YieldsFirst (seen_from back) (opened_left opened.old) result
         (opened_left opened.new) }
+    ensures looked { Adds (opened_counts opened.old) (opened_counts opened.new)
+        (found_item result) }
 {
     match opened {
         Some(scan) => take_from(scan, back),
@@ -46,13 +64,15 @@ fn take_of<'a, 'k, H: BlockHash>(
 }
 
 // The parts that a scan has not reached: those from an index up to another, without it. Clauses see
-// the table, the range of keys, and the handles of these parts.
+// the table, the range of keys, the handles of these parts, and what was counted of the index of
+// the parts and of those that are no longer open.
 #[derive(Drop)]
 struct UnreachedRef<'a, 'k, H: BlockHash> {
     table: PartedRef<'a, H>,
     from: Bound<&'k [u8]>,
     to: Bound<&'k [u8]>,
     rest: Between,
+    steps: Steps,
 }
 
 impl<'a, 'k, H: BlockHash> Model for UnreachedRef<'a, 'k, H> {
@@ -66,6 +86,7 @@ impl<'a, 'k, H: BlockHash> Model for UnreachedRef<'a, 'k, H> {
       table = u.table;
       range = range_by (λ k. k.now) u.from u.to;
       handles = between u.table.tops u.rest.lo u.rest.hi;
+      steps = u.steps;
     } };
 
     ghost invariant = { λ u. u.rest.hi ≤ length u.table.tops };
@@ -82,13 +103,17 @@ impl<'a, 'k, H: BlockHash> UnreachedRef<'a, 'k, H> {
         ensures range { result.range ≡ range_by (λ k. k.now) from.entry to.entry }
         ensures handles { result.handles
             ≡ handles_within (range_by (λ k. k.now) from.entry to.entry) table.entry.tops }
+        ensures counts { IsUpTo (tally_by result.steps)
+            (search_cost table.entry.interval (length table.entry.tops)) }
     {
-        let rest = parts_within(table.index(), &from, &to);
+        let mut steps = Steps::new();
+        let rest = parts_within(table.index(), &from, &to, &mut steps);
         UnreachedRef {
             table,
             from,
             to,
             rest,
+            steps,
         }
     }
 
@@ -108,9 +133,25 @@ impl<'a, 'k, H: BlockHash> UnreachedRef<'a, 'k, H> {
             ≡ seen_from back (opened_left near.new)
             ++ seen_from back (unreached_entries (hashes H.hash64 H.hash128) self.new) }
         ensures fewer { length self.new.handles < length self.old.handles }
+        ensures looked { Adds (counted_by near.old self.old None) (counted_by near.new self.new None) 1 }
     {
         let index = take_index(back, &mut self.rest);
-        *near = Some(self.table.scan_part(index, self.from, self.to));
+        add_opened(&mut self.steps, near);
+        let scan = self
+            .table
+            .scan_part(index, self.from, self.to, &mut self.steps);
+        *near = Some(scan);
+    }
+
+    // Keeps what was counted of the part at an end, if one is open.
+    fn keep_steps(&mut self, near: &Option<RunScan<'a, 'k, H>>)
+        ensures rest { self.new ≡ record self.old { steps = self.new.steps } }
+        ensures heads { self.new.steps.heads
+            ≡ self.old.steps.heads + (opened_counts near.now).heads }
+        ensures entries { self.new.steps.entries
+            ≡ self.old.steps.entries + (opened_counts near.now).entries }
+    {
+        add_opened(&mut self.steps, near);
     }
 }
 
@@ -129,6 +170,8 @@ fn turn<'a, 'k, H: BlockHash>(
     ensures first { YieldsFirst (λ xs. xs)
         (left_from (hashes H.hash64 H.hash128) back near.old unreached.old far.old) result
         (left_from (hashes H.hash64 H.hash128) back near.new unreached.new far.new) }
+    ensures looked { Adds (counted_by near.old unreached.old far.old)
+        (counted_by near.new unreached.new far.new) (found_item result) }
 {
     'open: while unreached.has_part() {
         unreached.open_next(back, near);
@@ -136,6 +179,7 @@ fn turn<'a, 'k, H: BlockHash>(
             return Some(entry);
         }
     }
+    unreached.keep_steps(near);
     *near = None;
     take_of(far, back)
 }
@@ -153,6 +197,8 @@ fn step<'a, 'k, H: BlockHash>(
     ensures first { YieldsFirst (λ xs. xs)
         (left_from (hashes H.hash64 H.hash128) back near.old unreached.old far.old) result
         (left_from (hashes H.hash64 H.hash128) back near.new unreached.new far.new) }
+    ensures looked { Adds (counted_by near.old unreached.old far.old)
+        (counted_by near.new unreached.new far.new) (found_item result) }
 {
     if let Some(entry) = take_of(near, back) {
         return Some(entry);
@@ -172,6 +218,8 @@ fn step_back<'a, 'k, H: BlockHash>(
     ensures last { YieldsLast (λ xs. xs)
         (left_from (hashes H.hash64 H.hash128) false front.old unreached.old back.old) result
         (left_from (hashes H.hash64 H.hash128) false front.new unreached.new back.new) }
+    ensures looked { Adds (counted_by front.old unreached.old back.old)
+        (counted_by front.new unreached.new back.new) (found_item result) }
 {
     step(true, unreached, back, front)
 }
@@ -184,7 +232,7 @@ fn step_back<'a, 'k, H: BlockHash>(
 /// and a check. Parts that the index of the parts shows to be outside the range are not opened. At
 /// most two parts are open, one for each end, and where the ends meet in a part both take from it.
 ///
-/// Clauses see the table, the range, and the entries left.
+/// Clauses see the table, the range, the entries left, and what was counted since the scan was made.
 #[derive(Drop)]
 pub struct PartedRefScan<'a, 'k, H: BlockHash> {
     unreached: UnreachedRef<'a, 'k, H>,
@@ -194,7 +242,7 @@ pub struct PartedRefScan<'a, 'k, H: BlockHash> {
 
 impl<'a, 'k, H: BlockHash> Model for PartedRefScan<'a, 'k, H> {
     ghost use Rattle.std.specs.Prelude.{false};
-    ghost use Rattle.sst_parts.specs.RefScans.{RefScanParts, left_from};
+    ghost use Rattle.sst_parts.specs.RefScans.{RefScanParts, counted_by, left_from};
     ghost use Rattle.sstable_blocks.specs.RunReading.{hashes};
 
     ghost Value = { RefScanParts };
@@ -203,7 +251,24 @@ impl<'a, 'k, H: BlockHash> Model for PartedRefScan<'a, 'k, H> {
       table = s.unreached.table;
       range = s.unreached.range;
       left = left_from (hashes H.hash64 H.hash128) false s.front s.unreached s.back;
+      counted = counted_by s.front s.unreached s.back;
     } };
+}
+
+impl<'a, 'k, H: BlockHash> PartedRefScan<'a, 'k, H> {
+    /// Returns what was counted since the scan was made: the heads that were compared, and the
+    /// entries that were decoded, of the index of the parts, and of the parts, as
+    /// [`RunScan::steps`] counts them.
+    pub fn steps(&self) -> Steps
+        ensures heads { result.heads ≡ self.now.counted.heads }
+        ensures entries { result.entries ≡ self.now.counted.entries }
+    {
+        let mut steps = Steps::new();
+        steps.add(&self.unreached.steps);
+        add_opened(&mut steps, &self.front);
+        add_opened(&mut steps, &self.back);
+        steps
+    }
 }
 
 /// Takes the first entry left, if there is one.

@@ -18,7 +18,7 @@ use crate::scan_end::ScanEnd;
 use crate::table::PartedTable;
 use sstable_blocks::run::FrameSource;
 use sstable_blocks::run::ends::Between;
-use sstable_blocks::{BlockHash, Error, InternalValue, Result};
+use sstable_blocks::{BlockHash, Error, InternalValue, Result, Steps};
 use std::alloc::Global;
 use std::marker::Model;
 use std::ops::Bound;
@@ -53,7 +53,7 @@ impl<H: BlockHash, S: FrameSource> Unreached<H, S> {
         ensures handles { result.handles
             ≡ handles_within (range_by (λ k. k.now) from.now to.now) table.tops }
     {
-        let rest = parts_within(&table.index().by_ref(), from, to);
+        let rest = parts_within(&table.index().by_ref(), from, to, &mut Steps::new());
         Unreached { table, rest }
     }
 

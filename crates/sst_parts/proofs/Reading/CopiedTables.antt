@@ -1,5 +1,5 @@
 -- Parted tables, all of whose parts are copied.
-use Rattle.std.proofs.Common.{◌≡◌, ℕ, ◌<◌, ◌^◌, List, [], ◌∷◌, ◌++◌, length, map, sym, subst, Ok}
+use Rattle.std.proofs.Common.{◌≡◌, ℕ, ◌<◌, ◌^◌, List, [], ◌∷◌, ◌++◌, length, map, subst}
 use Rattle.std.specs.List.{AllByRecursion, AllZip}
 use Rattle.sstable_blocks.specs.Prelude.{Entry, index_check, IndexVerdict, Handle, handles, IsIndexBlock, IndexPasses, items_in, trailer_in}
 use Rattle.sst_parts.specs.PartCopies.{CopiedTable, IsCopiedTable, IsPartOfTable, parts_of_tables, sources_of}

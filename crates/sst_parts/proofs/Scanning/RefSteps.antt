@@ -9,7 +9,8 @@ use Rattle.std.specs.Prelude.{nat_lt}
 use Rattle.sstable_blocks.specs.Prelude.{HandleParts, Entry, Handle}
 use Rattle.sst_parts.specs.Parts.{PartedParts}
 use Rattle.sst_parts.specs.PartScans.{part_reads, parts_read}
-use Rattle.sst_parts.specs.RefScans.{UnreachedRefParts, left_from, opened_left, unreached_entries}
+use Rattle.sst_parts.specs.RefScans.{UnreachedRefParts, counted_by, left_from, opened_left, unreached_entries}
+use Rattle.sstable_blocks.specs.Tallies.{Adds, IsUpTo, Tally, search_cost, tally_by}
 use Rattle.sst_parts.proofs.Scanning.Reaching.{next_part}
 use Rattle.sstable_blocks.specs.BetweenLaws.{item_found}
 use Rattle.sstable_blocks.specs.BlockReading.{seen_from}
@@ -63,11 +64,12 @@ next_entries c all r hs back lo hi i lo' hi' opened less inside at low high is =
 
 -- ---- steps, seen from an end
 -- parts were reached, and all that was opened was taken: what is left is the same
-pub record IsTurned (c : Hashes) (back : Bool) (u0 u : UnreachedRefParts) (near : Option RunScanParts) : Type 0 where
+pub record IsTurned (c : Hashes) (back : Bool) (u0 : UnreachedRefParts) (near0 : Option RunScanParts) (u : UnreachedRefParts) (near : Option RunScanParts) : Type 0 where
   pub table : u.table ≡ u0.table
   pub range : u.range ≡ u0.range
   pub none : seen_from back (opened_left near) ≡ []
   pub left : seen_from back (unreached_entries c u) ≡ seen_from back (unreached_entries c u0)
+  pub looked : Adds (counted_by near0 u0 None) (counted_by near u None) 0
 
 -- where no part is left between the ends, the part of the other end is all
 far_taken : (x : Option Entry) (near middle far far' : List Entry) → near ≡ [] → middle ≡ [] → YieldsFirst (λ xs. xs) far x far' → YieldsFirst (λ xs. xs) (near ++ (middle ++ far)) x far'
@@ -117,3 +119,7 @@ fresh_left c of keys u items table range handles law =
     append-nil (unreached_entries c u)
     ∙ ap (λ (t : PartedParts (List ℕ)). entries_read (parts_read c t.source u.range u.handles)) table ∙ ap (λ r. entries_read (parts_read c of.source r u.handles)) range ∙ ap (λ hs. entries_read (parts_read c of.source keys hs)) handles
     ∙ ap entries_read law ∙ entries_again items
+
+-- nothing was counted in parts, where none was opened
+pub none_opened : (u : UnreachedRefParts) (most : Tally) → IsUpTo (tally_by u.steps) most → IsUpTo (counted_by None u None) most
+none_opened u most up = (let heads = up.heads in let entries = up.entries in let due = up.due in record { heads = omega arith; entries = omega arith; due = omega arith })

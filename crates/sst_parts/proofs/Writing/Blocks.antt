@@ -1,12 +1,11 @@
 -- Blocks behind parts that are closed.
-use Rattle.std.proofs.Common.{◌≡◌, ℕ, ◌+◌, ◌-◌, ◌<◌, ◌≤◌, ◌||◌, ◌&&◌, Bool, true, false, cond, inl, inr, List, [], ◌∷◌, ◌++◌, length, take, refl, arith, sym, ◌∙◌, ap, subst, append_assoc, length-append, Option, Some, None}
+use Rattle.std.proofs.Common.{◌≡◌, ℕ, ◌+◌, ◌-◌, ◌≤◌, ◌||◌, ◌&&◌, Bool, true, false, cond, inl, inr, List, [], ◌∷◌, ◌++◌, length, take, refl, arith, sym, ◌∙◌, ap, subst, append_assoc, length-append, Option, Some, None}
 use Rattle.std.proofs.lemmas.Bool.{cases_Bool, cases_lt}
 use Rattle.std.proofs.lemmas.Bool.Decides.{nat_tests}
 use Rattle.std.proofs.lemmas.List.{append-nil, length_push, map-append, take-append-le, take_all}
 use Rattle.std.proofs.lemmas.List.Sums.{sum_by-append}
 use Rattle.std.specs.Prelude.{nat_le}
-use Rattle.std.specs.declared.cmp.Ordering.{Ordering}
-use Rattle.sstable_blocks.specs.Prelude.{Entry, IsInOrder, entries, IsOrdered, item_cmp}
+use Rattle.sstable_blocks.specs.Prelude.{Entry, entries, IsOrdered, item_cmp}
 use Rattle.sst_parts.specs.PartCopies.{ClosedView, IsLastKey, IsNextPart, IsOpenPart, known_blocks, known_parts}
 use Rattle.sst_parts.specs.PartWriting.{AreCut, IsFirstFull, IsLastOf, data_len, is_full, reaches}
 use Rattle.sst_parts.specs.declared.closed.PartEnd.{PartEnd}

@@ -1,10 +1,9 @@
-use Rattle.std.proofs.Common.{rules, ◌≡◌, ◌≢◌, ◌∙◌, ◌∷◌, [], ℕ, List, Some, None, sym, ap, subst, refl, IsTrue}
+use Rattle.std.proofs.Common.{rules, ◌≡◌, ◌≢◌, ◌∷◌, [], Some, None, sym, subst, refl, IsTrue}
 use Rattle.std.specs.Cmp.Lexicographic.{slice_cmp}
-use Rattle.std.specs.Option.{option_map}
 use Rattle.std.specs.Ordering.{nat_cmp, ordering_then}
 use Rattle.std.specs.declared.cmp.Ordering.TheVariants.{Less}
 use Rattle.sst_parts.proofs.Writing.Ends.{follows_from, follows_to, not_less}
-use Rattle.sst_parts.specs.PartCopies.{IsLastKey, end_entry}
+use Rattle.sst_parts.specs.PartCopies.{end_entry}
 use Rattle.sst_parts.proofs.part_core.end_fits_behind.Goals as goal
 
 pub returns-in-None : goal.returns-in-None

@@ -1,6 +1,5 @@
-use Rattle.std.proofs.Common.{◌≡◌, ◌∙◌, ℕ, List, Some, map, sym, ap, IsTrue}
+use Rattle.std.proofs.Common.{◌≡◌, ◌∙◌, Some, map, sym, ap, IsTrue}
 use Rattle.std.specs.List.{slice_get}
-use Rattle.std.specs.Option.{option_map}
 use Rattle.sstable_blocks.specs.Prelude.{Entry}
 use Rattle.sst_parts.proofs.Writing.Ends.{first_mapped, follows_from, follows_to}
 use Rattle.sst_parts.proofs.part_core.fits_behind.Goals as goal

@@ -1,5 +1,5 @@
-use Rattle.std.proofs.Common.{◌≡◌, ◌≤◌, ◌↔◌, ◌==◌, Bool, true, false, ℕ, IsTrue, List, length, vec_len, not, refl, arith, ap, sym, subst, inl, inr, eqb}
-use Rattle.std.proofs.lemmas.Bool.{cases_Bool, eqb-true, eqb-false}
+use Rattle.std.proofs.Common.{◌≡◌, ◌≤◌, ◌↔◌, ◌==◌, Bool, true, false, ℕ, IsTrue, length, vec_len, not, refl, arith, sym, subst}
+use Rattle.std.proofs.lemmas.Bool.{eqb-true, eqb-false}
 use Rattle.sstable_blocks.specs.Run.{form}
 use Rattle.sst_parts.proofs.Writing.Closings.{tops_count}
 use Rattle.sst_parts.specs.PartCopies.{ClosedView}

@@ -1,4 +1,4 @@
-use Rattle.std.proofs.Common.{◌≡◌, ◌∙◌, ◌-◌, [], ℕ, List, length, Option, Some, None, ap, sym, subst}
+use Rattle.std.proofs.Common.{◌≡◌, ◌∙◌, ◌-◌, [], ℕ, List, length, Some, None, ap, sym, subst}
 use Rattle.std.specs.List.{slice_get}
 use Rattle.sstable_blocks.specs.Prelude.{Handle}
 use Rattle.sstable_blocks.specs.Blocks.{joined}

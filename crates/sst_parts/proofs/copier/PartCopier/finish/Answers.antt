@@ -1,4 +1,4 @@
-use Rattle.std.proofs.Common.{List, Option, ap, ◌∙◌, sym, subst}
+use Rattle.std.proofs.Common.{List, ap, ◌∙◌, sym, subst}
 use Rattle.std.proofs.lemmas.Result.{err_from_is_err_and}
 use Rattle.sstable_blocks.specs.Footer.{footer}
 use Rattle.sstable_blocks.specs.Run.{form}

@@ -1,4 +1,4 @@
-use Rattle.std.proofs.Common.{◌≡◌, ◌≤◌, length, refl, sym, subst, IfErr, IfOk}
+use Rattle.std.proofs.Common.{◌≤◌, length, refl, sym, subst, IfErr, IfOk}
 use Rattle.std.proofs.lemmas.Result.{IfErr-weaker}
 use Rattle.sstable_blocks.specs.Run.{form}
 use Rattle.sstable_blocks.specs.RunLaws.{refusal_on}

@@ -19,8 +19,8 @@ run_of-requires g c =
     let part = c.parted_parts_are_scanned.ensures k i.0.0 s.bytes.now s.top s.index.items keys c.args.index h.0 g.met.H.BlockHash.hash128_fits i.0.1 i.1 h.1 in
     (part.blocks, h.0, h.2, part.stored)
 
-pub returns : goal.returns
-returns g c =
+pub returns-clause-left : goal.returns-clause-left
+returns-clause-left g c =
     let k = hashes g.H.BlockHash.hash64 g.H.BlockHash.hash128 in
     let s = c.self.inside in
     let i = c.self.invariant in

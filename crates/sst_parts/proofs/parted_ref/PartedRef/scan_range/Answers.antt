@@ -1,5 +1,6 @@
-use Rattle.std.proofs.Common.{map, ◌∙◌}
-use Rattle.sst_parts.proofs.Scanning.RefSteps.{fresh_left}
+use Rattle.std.proofs.Common.{length, map, ◌∙◌}
+use Rattle.sstable_blocks.specs.Tallies.{search_cost}
+use Rattle.sst_parts.proofs.Scanning.RefSteps.{fresh_left, none_opened}
 use Rattle.sstable_blocks.specs.Blocks.{joined}
 use Rattle.sstable_blocks.specs.Prelude.{plain}
 use Rattle.sstable_blocks.specs.RunReading.{hashes}
@@ -15,6 +16,7 @@ returns g c =
     record {
       table = u.table ∙ c.again.ensures;
       range = u.range;
+      counts = none_opened c.new.result (search_cost of.interval (length of.tops)) (rw c.again.ensures at u.counts);
       left = λ parts parted. fresh_left k of keys c.new.result (within keys (map plain (joined (joined parts)))) (u.table ∙ c.again.ensures) u.range (rw c.again.ensures at u.handles)
           (c.parted_is_scanned.ensures k parts of.source of.top of.tops keys g.met.H.BlockHash.hash128_fits parted c.note_tops.ensures);
     }

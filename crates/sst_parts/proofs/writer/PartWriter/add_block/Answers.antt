@@ -1,4 +1,4 @@
-use Rattle.std.proofs.Common.{map, sym, subst}
+use Rattle.std.proofs.Common.{map, subst}
 use Rattle.std.proofs.lemmas.Result.{err_from_is_err_and}
 use Rattle.sstable_blocks.specs.Run.{form}
 use Rattle.sstable_blocks.specs.RunLaws.{refusal_on}
