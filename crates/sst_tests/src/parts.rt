@@ -13,6 +13,7 @@ use sstable_blocks::run::{RunHandles, encode_footer};
 use sstable_blocks::{MemorySource, RunConfig};
 use std::alloc::Global;
 use std::ops::Bound;
+use std::process::Abort;
 
 // The versions of a key: sequence numbers 9 down to 1.
 fn versions(list: &mut Vec<InternalValue>, key: u8) -> sst_base::Result<()> {
@@ -465,9 +466,10 @@ fn verified(alloc: Global, file: Vec<u8>) -> sst_base::Result<PartedSummary> {
 
 // How many entries a check counts in a file of two parts.
 fn entries_in(alloc: Global, first: &Part, second: &Part) -> sst_base::Result<u64> {
-    let file = file_of(alloc, first, second)?;
-    let summary = verified(alloc, file)?;
-    Ok(summary.whole.entries)
+    match summary_of(alloc, first, second) {
+        Ok(summary) => Ok(summary.whole.entries),
+        Err(error) => Err(error),
+    }
 }
 
 // Two parts, and what a check says of them.
@@ -493,10 +495,8 @@ fn parted_tables_alone_are_accepted(rt: HostRuntime) {
     }
 }
 
-#[test]
-fn summary_is_that_of_all_parts(rt: HostRuntime) -> Tested {
-    let file = file_of(rt.alloc(), &(1, 1, 1, 0), &(3, 3, 1, 0))?;
-    let summary = verified(rt.alloc(), file)?;
+// Checks the summary of two parts of nine versions each.
+fn check_summary(rt: &impl Abort, summary: &PartedSummary) {
     let whole = &summary.whole;
     assert_eq!(rt; (summary.parts, whole.blocks, whole.entries), (2, 6, 18));
     assert_eq!(rt;
@@ -508,6 +508,18 @@ fn summary_is_that_of_all_parts(rt: HostRuntime) -> Tested {
         (b"k\x03".as_slice(), 1)
     );
     assert_eq!(rt; (whole.least_seqno, whole.greatest_seqno), (1, 9));
+}
+
+// The summary of two parts.
+fn summary_of(alloc: Global, first: &Part, second: &Part) -> sst_base::Result<PartedSummary> {
+    let file = file_of(alloc, first, second)?;
+    verified(alloc, file)
+}
+
+#[test]
+fn summary_is_that_of_all_parts(rt: HostRuntime) -> Tested {
+    let summary = summary_of(rt.alloc(), &(1, 1, 1, 0), &(3, 3, 1, 0))?;
+    check_summary(&rt, &summary);
     Ok(())
 }
 

@@ -182,35 +182,39 @@ fn blocks_in<H: BlockHash, F: SeekInput + Drop, R, O: Write>(
     lines_in(progress, alloc, file, &mut table, output)
 }
 
-// Prints what a part holds at first: the number of its blocks, or why it is not opened.
-fn print_opened<H: BlockHash, O: Write>(
-    output: &mut O,
-    opened: &sstable_blocks::Result<Table<H, MemorySource>>,
-    cause: Cause,
-) -> io::Result<()> {
-    match opened {
-        Ok(table) => writeln!(output, "{} blocks", table.index().len()),
-        Err(error) => writeln!(output, "{}", ShownError::new(*error, cause)),
-    }
-}
-
-// Prints the lines of the blocks of a part that begins at an offset, if it was opened. Returns
+// Prints the number of the blocks of a part that begins at an offset, and a line for each. Returns
 // whether all are sound.
-fn print_opened_blocks<H: BlockHash, R, O: Write>(
+fn print_opened<H: BlockHash, S: FrameSource, R, O: Write>(
     progress: &Progress<'_, R>,
     alloc: Global,
-    opened: sstable_blocks::Result<Table<H, MemorySource>>,
+    part: &mut Table<H, S>,
     begin: u64,
     output: &mut O,
 ) -> Result<bool> {
-    let Ok(table) = opened else {
-        return Ok(false);
-    };
-    let mut table = table;
-    match print_blocks(progress, alloc, &mut table, begin, output)? {
-        0 => Ok(true),
-        _ => Ok(false),
+    writeln!(output, "{} blocks", part.index().len())?;
+    let failed = print_blocks(progress, alloc, part, begin, output)?;
+    Ok(failed == 0)
+}
+
+// Prints what a part that begins at an offset holds, or why it is not opened. Returns whether all
+// its blocks are sound.
+fn print_held_part<H: BlockHash, S: FrameSource + Drop, R, O: Write>(
+    progress: &Progress<'_, R>,
+    alloc: Global,
+    part: sstable_blocks::Result<Table<H, S>>,
+    begin: u64,
+    output: &mut O,
+) -> Result<bool> {
+    match part {
+        Ok(mut part) => print_opened(progress, alloc, &mut part, begin, output),
+        Err(error) => print_refused(output, error, progress.cause()),
     }
+}
+
+// Prints why a part is not opened, so that not all its blocks are sound.
+fn print_refused<O: Write>(output: &mut O, error: Error, cause: Cause) -> Result<bool> {
+    writeln!(output, "{}", ShownError::new(error, cause))?;
+    Ok(false)
 }
 
 // Opens the part of a table at an index, which is read whole.
@@ -241,9 +245,13 @@ fn print_part<H: BlockHash, S: FrameSource, R, O: Write>(
     let handle = table.index().handle_at(number, &mut Steps::new());
     let (begin, size) = (*handle.offset(), handle.size());
     write!(output, "part {number} at offset {begin}: {size} bytes, ")?;
-    let opened = open_part(alloc, table, number);
-    print_opened(output, &opened, progress.cause())?;
-    print_opened_blocks(progress, alloc, opened, begin, output)
+    print_held_part(
+        progress,
+        alloc,
+        open_part(alloc, table, number),
+        begin,
+        output,
+    )
 }
 
 // Prints the lines of each part of a table. Returns how many are not sound.

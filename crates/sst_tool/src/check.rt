@@ -90,7 +90,7 @@ fn check_by<H: BlockHash, S: FrameSource + Drop, R: Clock + Eprint>(
     handles: &RunHandles,
 ) -> Result<Checked> {
     let mut source = source;
-    if is_parted::<H, S>(alloc, &mut source, handles) {
+    if is_parted(alloc, &mut source, handles) {
         check_parted::<H, S, R>(progress, alloc, file, source, handles)
     } else {
         check_plain::<H, S, R>(progress, alloc, file, &mut source, handles)

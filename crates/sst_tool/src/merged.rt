@@ -1,7 +1,6 @@
 //! The tables that are merged, as sources of entries.
 ghost use Rattle.std.specs.Prelude.{◌≡◌, ◌+◌, length, None, OnOk, IfOk};
 ghost use Rattle.sst_merge.specs.Stored.{MayFailAnyTime};
-ghost use Rattle.sst_parts.specs.AnyScans.{source_of};
 ghost use Rattle.sst_tool.specs.Orders.{MayMisplace};
 ghost use Rattle.sst_tool.specs.Passed.{passed_on};
 ghost use Rattle.sst_tool.specs.Scanned.{scanned_left};
@@ -193,8 +192,8 @@ pub struct FileEntries<'p, H: BlockHash, F: SeekInput> {
 
 impl<'p, H: BlockHash, F: SeekInput> Source<InternalValue> for FileEntries<'p, H, F> {
     ghost left = { λ s. passed_on
-        (scanned_left (hashes H.hash64 H.hash128)
-        (F.whole (source_of s.entries.source.source.scan).inner) s.entries.source.source.scan)
+        (scanned_left (hashes H.hash64 H.hash128) (λ (f : SourceParts F). F.whole f.inner)
+        s.entries.source.source.scan)
         s.entries.source.ended };
 
     ghost may_fail = { MayMisplace (MayFailAnyTime (λ (s : SourceParts F). F.is_memory s.inner)) };

@@ -4,38 +4,21 @@ use crate::place::TableBlock;
 use crate::probes::{FREE_PROBES, claim_at, may_ask};
 use crate::progress::Progress;
 use crate::whole::number_at;
+use sst_parts::any_table::type_from;
 use sst_parts::{PartedSummary, PartedTable};
 use sstable_blocks::run::check;
 use sstable_blocks::run::checked::block_from;
 use sstable_blocks::run::footer::{FOOTER_LEN, read_table_footer};
-use sstable_blocks::table::block::header::HEADER_LEN;
 use sstable_blocks::{
-    BlockHandle, BlockHash, BlockOffset, BlockType, Error, FrameSource, Header, IndexBlock,
-    MemorySource, RunHandles, Steps, decode_footer,
+    BlockHandle, BlockHash, BlockOffset, BlockType, Error, FrameSource, IndexBlock, MemorySource,
+    RunHandles, SizedSource, Steps, decode_footer,
 };
 use std::alloc::Global;
 
-// Whether bytes begin with the header of an index of parts.
-fn is_top<H: BlockHash>(bytes: &[u8]) -> bool {
-    let mut reader = bytes;
-    match Header::decode_from::<H, &[u8]>(&mut reader) {
-        Ok(header) => header.block_type == BlockType::Meta,
-        Err(_) => false,
-    }
-}
-
-/// Returns whether a table file is in parts, by the header of the frame that its footer names as
-/// the index. Where that cannot be read it is not, and a check of the file says why.
-pub fn is_parted<H: BlockHash, S: FrameSource>(
-    alloc: Global,
-    source: &mut S,
-    handles: &RunHandles,
-) -> bool {
-    let header = BlockHandle::new(handles.index.offset(), HEADER_LEN as u32);
-    match source.read_frame(alloc, &header) {
-        Ok(bytes) => is_top::<H>(bytes.as_slice()),
-        Err(_) => false,
-    }
+/// Returns whether a table file is in parts, by the type of the frame that its footer names as the
+/// index. Where that cannot be read it is not, and a check of the file says why.
+pub fn is_parted<S: FrameSource>(alloc: Global, source: &mut S, handles: &RunHandles) -> bool {
+    type_from(alloc, source, &handles.index) == Ok(BlockType::Meta)
 }
 
 // The bytes at the end of a part where its footer is, if it has as many.
@@ -57,20 +40,30 @@ fn filter_at<S: FrameSource>(
     Some(BlockHandle::new(BlockOffset(offset), filter.size()))
 }
 
-// Counts the entries of a part, which is checked but for its filter.
+// Counts the entries of a table file, which is checked but for its filter.
+fn entries_in<H: BlockHash, S: SizedSource>(
+    alloc: Global,
+    file: &mut S,
+) -> sstable_blocks::Result<u64> {
+    let places = read_table_footer(alloc, file)?;
+    let unfiltered = RunHandles {
+        index: places.index,
+        filter: None,
+    };
+    let summary = check::<H, S>(alloc, file, &unfiltered)?;
+    Ok(summary.entries)
+}
+
+// The same of a part.
 fn entries_of<H: BlockHash, S: FrameSource>(
     alloc: Global,
     source: &mut S,
     part: &BlockHandle,
 ) -> sstable_blocks::Result<u64> {
-    let mut bytes = MemorySource::new(source.read_frame(alloc, part)?);
-    let places = read_table_footer(alloc, &mut bytes)?;
-    let unfiltered = RunHandles {
-        index: places.index,
-        filter: None,
-    };
-    let summary = check::<H, MemorySource>(alloc, &mut bytes, &unfiltered)?;
-    Ok(summary.entries)
+    match source.read_frame(alloc, part) {
+        Ok(bytes) => entries_in::<H, MemorySource>(alloc, &mut MemorySource::new(bytes)),
+        Err(error) => Err(error),
+    }
 }
 
 // Refuses a part whose filter claims too many probes for the entries of the part, which are counted

@@ -1,7 +1,6 @@
 //! Scans of tables as sources of entries.
 ghost use Rattle.std.specs.Prelude.{◌≡◌, None};
 ghost use Rattle.sst_merge.specs.Stored.{MayFailAnyTime};
-ghost use Rattle.sst_parts.specs.AnyScans.{source_of};
 ghost use Rattle.sst_tool.specs.Scanned.{scanned_left};
 ghost use Rattle.sstable_blocks.specs.RunReading.{hashes};
 ghost use Rattle.sst_tool.specs.Ends.{above, is_end_at};
@@ -125,15 +124,14 @@ impl<'p, 'k, H: BlockHash, S: FrameSource> InBlocks for Scanned<'p, 'k, H, S> {
 }
 
 impl<'p, 'k, H: BlockHash, S: FrameSource> Source<InternalValue> for Scanned<'p, 'k, H, S> {
-    ghost left = { λ s.
-        scanned_left (hashes H.hash64 H.hash128) (S.bytes (source_of s.scan)) s.scan };
+    ghost left = { λ s. scanned_left (hashes H.hash64 H.hash128) S.bytes s.scan };
 
     ghost may_fail = { MayFailAnyTime S.is_reliable };
 
     fn next_entry(&mut self, alloc: Global) -> Result<Option<InternalValue>> {
         self.unread = unread_of(&self.scan);
         match self.direction {
-            Direction::Forward => self.scan.next_entry(alloc),
+            Direction::Forward => Source::next_entry(&mut self.scan, alloc),
             Direction::Backward => self.scan.next_entry_back(alloc),
         }
     }

@@ -301,7 +301,7 @@ fn count_in<H: BlockHash, S: FrameSource + Drop, R: Clock + Eprint>(
     handles: &RunHandles,
 ) -> Result<(Counted, Seen)> {
     let mut source = source;
-    if is_parted::<H, S>(alloc, &mut source, handles) {
+    if is_parted(alloc, &mut source, handles) {
         count_parted::<H, S, R>(progress, alloc, file, source, handles)
     } else {
         count_plain::<H, S, R>(progress, alloc, file, source, handles)

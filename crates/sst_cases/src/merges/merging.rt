@@ -6,7 +6,7 @@ use sst_base::{InternalValue, Slice};
 use sst_block_cases::fault::{Fault, Result, kept};
 use sst_block_cases::room::Room;
 use sst_block_cases::texts::agreed;
-use sst_block_cases::words::{bytes_of, number_of, push_word, word_of, word_of_found};
+use sst_block_cases::words::{bytes_of, number_of, pair_of, push_word, word_of, word_of_found};
 use sst_merge::{Bottom, Compact, Merge, OlderRanges, Reversed, Snapshot, Source};
 use std::alloc::Global;
 
@@ -180,7 +180,7 @@ pub fn snapshots_of(alloc: Global, word: &str) -> Result<Vec<u64>> {
 
 /// The user keys of a word.
 fn keys_of(alloc: Global, word: &str) -> Result<(Slice, Slice)> {
-    let (first, last) = word.split_once(':').ok_or(Fault::Word)?;
+    let (first, last) = pair_of(word, ':')?;
     let first = Slice::from_vec(bytes_of(alloc, first)?)?;
     Ok((first, Slice::from_vec(bytes_of(alloc, last)?)?))
 }

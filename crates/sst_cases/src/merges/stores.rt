@@ -2,7 +2,7 @@
 
 use sst_base::{SeqNo, Slice};
 use sst_block_cases::fault::{Fault, Result};
-use sst_block_cases::words::{bytes_of, number_of, push_word, word_of_found};
+use sst_block_cases::words::{bytes_of, number_of, pair_of, push_word, word_of_found};
 use sst_examples::store::Store;
 use std::alloc::Global;
 
@@ -51,7 +51,7 @@ fn read_at(alloc: Global, store: &mut Store, key: &[u8], seqno: SeqNo) -> Result
 
 /// Reads what a word says: KEY:SEQNO.
 fn read(alloc: Global, store: &mut Store, word: &str) -> Result<String> {
-    let (key, seqno) = word.split_once(':').ok_or(Fault::Word)?;
+    let (key, seqno) = pair_of(word, ':')?;
     let key = bytes_of(alloc, key)?;
     read_at(alloc, store, key.as_slice(), number_of(seqno)?)
 }

@@ -106,7 +106,9 @@ pub fn of_run<H: BlockHash>(
     place: Place,
     asked: Asked<'_>,
 ) -> Result<String> {
-    let handles = room.places.ok_or(Fault::Word)?;
+    let Some(handles) = room.places else {
+        return Err(Fault::Word);
+    };
     let bytes = room.payload.as_slice();
     match place {
         Place::Memory => {
@@ -190,7 +192,9 @@ fn by_all<H: BlockHash>(
 
 /// What a sound run answers, by all that read it. The run is checked first.
 pub fn of_sound<H: BlockHash>(alloc: Global, room: &Room, wanted: Wanted<'_>) -> Result<String> {
-    let handles = room.places.ok_or(Fault::Word)?;
+    let Some(handles) = room.places else {
+        return Err(Fault::Word);
+    };
     let run = Slice::new(alloc, room.payload.as_slice())?;
     let (checked, _) = RunRef::<H>::check(alloc, run.as_slice(), &handles)?;
     by_all::<H>(alloc, room, &checked, &run, &handles, wanted)

@@ -46,7 +46,9 @@ pub fn checked<H: BlockHash, S: FrameSource + Drop>(
 
 /// The check of the run in bytes that are lent, by what borrows them.
 fn by_ref<H: BlockHash>(alloc: Global, room: &Room) -> Result<String> {
-    let handles = room.places.ok_or(Fault::Word)?;
+    let Some(handles) = room.places else {
+        return Err(Fault::Word);
+    };
     let checked = RunRef::<H>::check(alloc, room.payload.as_slice(), &handles)?;
     text_of(alloc, &checked.1)
 }

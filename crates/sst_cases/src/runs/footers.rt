@@ -4,7 +4,7 @@ use super::text_of;
 use sst_base::{BlockHandle, BlockHash, BlockOffset, Slice};
 use sst_block_cases::fault::{Fault, Result};
 use sst_block_cases::room::Room;
-use sst_block_cases::words::{number_of, size_of};
+use sst_block_cases::words::{number_of, pair_of, size_of};
 use sstable_blocks::Table;
 use sstable_blocks::run::{
     FileSource, MemorySource, RunHandles, SizedSource, decode_footer, encode_footer,
@@ -14,7 +14,7 @@ use std::io::Cursor;
 
 /// Returns the place of a word: offset and size, joined by a dot.
 fn handle_of(word: &str) -> Result<BlockHandle> {
-    let (offset, size) = word.split_once('.').ok_or(Fault::Word)?;
+    let (offset, size) = pair_of(word, '.')?;
     Ok(BlockHandle::new(BlockOffset(number_of(offset)?), size_of(size)?))
 }
 

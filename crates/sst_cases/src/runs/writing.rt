@@ -164,7 +164,9 @@ fn keep(alloc: Global, room: &mut Room, run: Written, is_same: bool) -> Result<S
 /// Writes the list as a run, at once and block by block: INTERVAL NUM DEN BITS INDEX_INTERVAL CUT
 /// ..
 fn write<H: BlockHash>(alloc: Global, room: &mut Room, words: &[&str]) -> Result<String> {
-    let (form, cuts) = words.split_at_checked(5).ok_or(Fault::Word)?;
+    let Some((form, cuts)) = words.split_at_checked(5) else {
+        return Err(Fault::Word);
+    };
     let config = config_of(form)?;
     let cuts = numbers_of(alloc, cuts)?;
     let (run, is_same) = written::<H>(alloc, room.entries.as_slice(), cuts.as_slice(), config)?;

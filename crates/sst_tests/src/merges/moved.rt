@@ -173,6 +173,24 @@ fn check_steps<T: Keyed + AsEntry + Drop, I: Movable<T>>(
     Ok(())
 }
 
+/// The merge of three sources that were not moved.
+fn merge_of<T: Keyed, I: Movable<T> + Drop>(
+    alloc: Global,
+    first: Result<I>,
+    second: Result<I>,
+    third: Result<I>,
+) -> Result<MovableMerge<T, I>>
+    requires first { IfOk first (λ s. IsFreshSource T.cmp (I.moved s)) }
+    requires second { IfOk second (λ s. IsFreshSource T.cmp (I.moved s)) }
+    requires third { IfOk third (λ s. IsFreshSource T.cmp (I.moved s)) }
+{
+    let mut sources = Vec::new(alloc);
+    sources.push(first?)?;
+    sources.push(second?)?;
+    sources.push(third?)?;
+    Ok(MovableMerge::new(sources))
+}
+
 /// Takes all steps of a merge of three lists, up to the first error.
 fn check_lists(
     rt: &impl Abort,
@@ -184,12 +202,13 @@ fn check_lists(
     assert!(rt; InternalValue::are_ordered(first));
     assert!(rt; InternalValue::are_ordered(second));
     assert!(rt; InternalValue::are_ordered(third));
-    let sources = vec![in alloc;
-        MovableList::new(first),
-        MovableList::new(second),
-        MovableList::new(third),
-    ]?;
-    check_steps(rt, alloc, &mut MovableMerge::new(sources))
+    let mut merge = merge_of(
+        alloc,
+        Ok(MovableList::new(first)),
+        Ok(MovableList::new(second)),
+        Ok(MovableList::new(third)),
+    )?;
+    check_steps(rt, alloc, &mut merge)
 }
 
 #[test]
@@ -231,12 +250,13 @@ fn check_blocks<'x>(
     requires second { AreEntryBlocks (block_lists second.now) }
     requires third { AreEntryBlocks (block_lists third.now) }
 {
-    let sources = vec![in alloc;
-        MovableBlocks::new(first),
-        MovableBlocks::new(second),
-        MovableBlocks::new(third),
-    ]?;
-    check_steps(rt, alloc, &mut MovableMerge::new(sources))
+    let mut merge = merge_of(
+        alloc,
+        Ok(MovableBlocks::new(first)),
+        Ok(MovableBlocks::new(second)),
+        Ok(MovableBlocks::new(third)),
+    )?;
+    check_steps(rt, alloc, &mut merge)
 }
 
 /// The same of three runs.
@@ -253,10 +273,18 @@ fn check_runs(
     check_blocks(rt, alloc, &first, &second, &third)
 }
 
+/// The first of two.
+fn first_of<A, B: Drop>(both: (A, B)) -> A {
+    let (first, _) = both;
+    first
+}
+
 /// A run over its bytes, which is checked.
 fn checked(alloc: Global, run: &Run) -> Result<RunRef<'_, ByteSum>> {
-    let (run, _) = RunRef::check(alloc, &run.1, &run.0)?;
-    Ok(run)
+    match RunRef::check(alloc, &run.1, &run.0) {
+        Ok(both) => Ok(first_of(both)),
+        Err(error) => Err(error),
+    }
 }
 
 /// The same of three runs that are checked first.
@@ -300,24 +328,6 @@ fn table_of(
 
 /// A table whose ends are moved.
 type MovedTable = MovableTable<ByteSum, FailingSource>;
-
-/// The merge of three sources that were not moved.
-fn merge_of<I: Movable<InternalValue> + Drop>(
-    alloc: Global,
-    first: Result<I>,
-    second: Result<I>,
-    third: Result<I>,
-) -> Result<MovableMerge<InternalValue, I>>
-    requires first { IfOk first (λ s. IsFreshSource entry_cmp (I.moved s)) }
-    requires second { IfOk second (λ s. IsFreshSource entry_cmp (I.moved s)) }
-    requires third { IfOk third (λ s. IsFreshSource entry_cmp (I.moved s)) }
-{
-    let mut sources = Vec::new(alloc);
-    sources.push(first?)?;
-    sources.push(second?)?;
-    sources.push(third?)?;
-    Ok(MovableMerge::new(sources))
-}
 
 /// Checks that each step and search of a merge gives this error.
 fn check_ended(

@@ -1,18 +1,9 @@
 use Rattle.std.proofs.Common.{◌<◌, None}
 use Rattle.sstable_blocks.specs.Prelude.{Entry}
-use Rattle.sst_merge.specs.FailureLaws.{scan_fails, scan_fails_back, scan_no_more_back}
+use Rattle.sst_merge.specs.FailureLaws.{scan_fails_back, scan_no_more_back}
 use Rattle.sstable_blocks.specs.RunReading.{hashes}
 use Rattle.sst_parts.specs.AnyScans.{ended_in, left_in, most_in, source_of}
 use Rattle.sst_tool.proofs.source.ScannedSourceInternalValue.next_entry.Goals as goal
-
-pub returns-in-Forward-clause-cause : goal.returns-in-Forward-clause-cause
-returns-in-Forward-clause-cause g c =
-    let h = hashes g.H.BlockHash.hash64 g.H.BlockHash.hash128 in
-    let f = g.S.FrameSource in
-    let old = c.args.self.now.scan in
-    let new = c.next_entry.new.self in
-    let e = c.next_entry.ensures in
-    scan_fails {X = Entry} f.is_reliable (source_of old) (f.failures (source_of old) < f.failures (source_of new)) None (most_in old) (f.bytes (source_of old)) (λ all. left_in h all old) (λ all. left_in h all new) (ended_in old) (ended_in new) c.next_entry.result e.ended e.first
 
 pub returns-in-Backward-clause-cause : goal.returns-in-Backward-clause-cause
 returns-in-Backward-clause-cause g c =
