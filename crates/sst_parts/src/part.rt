@@ -26,22 +26,7 @@ use std::alloc::Global;
 const FOOTER: u32 = FOOTER_LEN as u32;
 
 // The range of the first handle of an index that can lead to a key below a sequence number.
-fn find_range(
-    index: &IndexBlock,
-    needle: &[u8],
-    seqno: SeqNo,
-    steps: &mut Steps,
-) -> Option<BlockHandle>
-    ensures found { result
-        ≡ option_map range_of (handle_for handles needle.now seqno index.now.items) }
-    ensures counts { CountsBetween steps.old steps.new (1, 0)
-        (find_cost index.now.interval (length index.now.items)) }
-{
-    find_in(&index.by_ref(), needle, seqno, steps)
-}
-
-// The same of an index over borrowed bytes.
-#[tactic(auto, using(sstable_blocks::specs::IndexStepLaws::found_range, sstable_blocks::specs::IndexStepLaws::handles_by_scan))]
+#[tactic(auto, using(sstable_blocks::specs::IndexStepLaws::handles_by_scan))]
 pub(crate) fn find_in(
     index: &IndexBlockRef<'_>,
     needle: &[u8],
@@ -53,14 +38,7 @@ pub(crate) fn find_in(
     ensures counts { CountsBetween steps.old steps.new (1, 0)
         (find_cost index.now.interval (length index.now.items)) }
 {
-    let mut iter = index.iter();
-    iter.seek(needle, seqno);
-    let found = iter.next();
-    steps.add(iter.steps());
-    match found {
-        Some(item) => Some(BlockHandle::new(item.offset, item.size)),
-        None => None,
-    }
+    index.find(needle, seqno, steps)
 }
 
 // The range of the part that can hold a key below a sequence number.
@@ -78,7 +56,7 @@ pub(crate) fn find_part(
 {
     // Each part ends below 2^64.
     let _payload = index.as_slice();
-    find_range(index, needle, seqno, steps)
+    find_in(&index.by_ref(), needle, seqno, steps)
 }
 
 // The handles in the footer of a part.

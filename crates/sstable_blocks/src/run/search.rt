@@ -71,22 +71,17 @@ impl<'a> IndexSearch<'a> {
         self.block.len()
     }
 
-    /// Returns the first handle that can lead to a key below a sequence number.
-    #[tactic(auto, using(crate::specs::IndexStepLaws::found_range, crate::specs::IndexStepLaws::handles_by_scan))]
+    /// Returns the range of the first handle that can lead to a key below a sequence number, as
+    /// [`IndexBlockRef::find`] does.
+    #[inline(always)]
+    #[tactic(auto, using(crate::specs::IndexStepLaws::handles_by_scan))]
     pub(crate) fn find(&self, needle: &[u8], seqno: SeqNo, steps: &mut Steps) -> Option<BlockHandle>
         ensures found { result
             ≡ option_map range_of (handle_for handles needle.now seqno self.now.items) }
         ensures counts { CountsBetween steps.old steps.new (1, 0)
             (find_cost self.now.interval (length self.now.items)) }
     {
-        let mut iter = self.block.iter();
-        iter.seek(needle, seqno);
-        let found = iter.next();
-        steps.add(iter.steps());
-        match found {
-            Some(item) => Some(BlockHandle::new(item.offset, item.size)),
-            None => None,
-        }
+        self.block.find(needle, seqno, steps)
     }
 
     /// Returns how many handles a bound passes, as [`IndexBlockRef::position`] does.

@@ -113,8 +113,8 @@ impl MemorySource {
         self.bytes
     }
 
-    // The bytes of the run.
-    pub(crate) fn bytes(&self) -> &Slice
+    /// Returns the bytes of the run, which are lent.
+    pub fn bytes(&self) -> &Slice
         ensures { result.now ≡ self.now.inner }
     {
         &self.bytes

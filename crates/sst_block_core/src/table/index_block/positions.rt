@@ -12,10 +12,35 @@ ghost use Rattle.sst_block_core.specs.Handles.{handles};
 use crate::table::block::bound::Bound;
 use crate::table::index_block::IndexBlock;
 use crate::table::index_block::block_ref::IndexBlockRef;
-use sst_base::Steps;
+use sst_base::{SeqNo, Steps};
 use sst_base::table::block::BlockHandle;
 
 impl<'a> IndexBlockRef<'a> {
+    /// Returns the range of the first handle that can lead to a key below a sequence number, if
+    /// there is one, as a seek of an iterator finds it. Takes no memory. What is examined is added
+    /// to `steps`: what [`IndexBlockRef::position`] adds, and the handle that is returned.
+    #[inline(always)]
+    pub fn find(&self, needle: &[u8], seqno: SeqNo, steps: &mut Steps) -> Option<BlockHandle>
+        ensures range { result ≡ option_map handle_range (slice_get self.now.items
+            (count_passed handles needle.now (Some seqno) self.now.items)) }
+        ensures counts { CountsBetween steps.old steps.new (1, 0) (
+          digits (head_count self.now.interval (length self.now.items)),
+          scan_cost self.now.interval + 1,
+        ) }
+    {
+        let bound = Bound {
+            needle,
+            from: Some(seqno),
+        };
+        let mut intervals = self.intervals();
+        let found = intervals.first_behind(&bound);
+        steps.add(intervals.steps());
+        match found {
+            Some(item) => Some(BlockHandle::new(item.offset, item.size)),
+            None => None,
+        }
+    }
+
     /// Returns how many handles a bound passes, which is the index of the first handle
     /// behind it. Takes no memory. What is examined is added to `steps`: at least a head, and at
     /// most as many heads as their number has binary digits, and the handles of one restart
