@@ -12,8 +12,8 @@ ghost use Rattle.sst_block_core.specs.Handles.{handles};
 use crate::table::block::bound::Bound;
 use crate::table::index_block::IndexBlock;
 use crate::table::index_block::block_ref::IndexBlockRef;
-use sst_base::{SeqNo, Steps};
 use sst_base::table::block::BlockHandle;
+use sst_base::{SeqNo, Steps};
 
 impl<'a> IndexBlockRef<'a> {
     /// Returns the range of the first handle that can lead to a key below a sequence number, if
