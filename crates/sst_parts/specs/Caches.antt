@@ -52,6 +52,11 @@ is_place place other = nat_eq place.0 other.0 && (nat_eq place.1.0 other.1.0 && 
 abbrev pub kept_at : {V : Type 0} → List (Kept V) → Place → Option V
 kept_at kept place = lookup (is_place place) kept
 
+-- what is kept of a place is the most recently used
+abbrev pub IsLatest : {V : Type 0} → List (Kept V) → Place → Type 0
+IsLatest [] place = ⊥
+IsLatest (e ∷ es) place = e.0 ≡ place
+
 -- the bytes of all that is kept
 abbrev pub kept_bytes : {V : Type 0} → (V → ℕ) → List (Kept V) → ℕ
 kept_bytes size [] = 0

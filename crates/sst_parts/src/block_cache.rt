@@ -5,7 +5,7 @@ ghost use Rattle.std.specs.Option.{option_map};
 ghost use Rattle.sst_parts.specs.CachedBlocks.{IsBlockOf, IsReadOf, ReadsBlock, ReadsPlace};
 ghost use Rattle.sst_parts.specs.CachedBlocks.{block_bytes, block_frames, block_of_run, entries_in};
 ghost use Rattle.sst_parts.specs.CachedBlocks.{first_at, frames_for, heads_in};
-ghost use Rattle.sst_parts.specs.Caches.{KeepsNew, kept_at, place_at};
+ghost use Rattle.sst_parts.specs.Caches.{IsLatest, KeepsNew, kept_at, place_at};
 ghost use Rattle.sstable_blocks.specs.Opened.{range_of};
 ghost use Rattle.sstable_blocks.specs.Prelude.{CountsBetween, Handle, HandleParts, digits, entries};
 ghost use Rattle.sstable_blocks.specs.ReadCosts.{CountsGrow, CountsRead, entries_at, heads_at};
@@ -36,7 +36,7 @@ impl<H: BlockHash> Cached for DataBlock<H> {
     }
 }
 
-// The first match in the block in a range of a table's source, which is kept.
+// The first match in the block in a range of a table's source, which was looked up and found.
 fn read_kept<H: BlockHash>(
     alloc: Global,
     cache: &BlockCache<H>,
@@ -46,13 +46,14 @@ fn read_kept<H: BlockHash>(
     seqno: SeqNo,
     steps: &mut Steps,
 ) -> Result<Option<InternalValue>>
-    requires { IsSome (kept_at cache.now.kept (place_at number range.now)) }
+    requires kept { IsSome (kept_at cache.now.kept (place_at number range.now)) }
+    requires latest { IsLatest cache.now.kept (place_at number range.now) }
     ensures read { IfSome (slice_get cache.now.tables number)
         (λ o. IsReadOf (hashes H.hash64 H.hash128) o range.now needle.now seqno ⊥ ⊥ result
         steps.old steps.new) }
     ensures memory { IsOkUnless result Error.Memory }
 {
-    match cache.peek(number, range) {
+    match cache.latest() {
         Some(block) => block.point_read(alloc, needle, seqno, steps),
         None => unreachable!(),
     }

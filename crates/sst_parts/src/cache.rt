@@ -4,8 +4,8 @@ ghost use Rattle.std.specs.Prelude.{None, IfOk, IfSome, Option};
 ghost use Rattle.std.specs.Prelude.{IfNone, IsNone, IsOkUnless, false, is_some, length};
 ghost use Rattle.std.specs.Prelude.{option_copied, true};
 ghost use Rattle.lru.specs.LruCache.{lru_cache};
-ghost use Rattle.sst_parts.specs.Caches.{IsKept, Keeps, empty_cache, fitting, kept_at, kept_bytes};
-ghost use Rattle.sst_parts.specs.Caches.{looked_up, place_at};
+ghost use Rattle.sst_parts.specs.Caches.{IsKept, IsLatest, Keeps, Place, empty_cache, fitting};
+ghost use Rattle.sst_parts.specs.Caches.{kept_at, kept_bytes, looked_up, place_at};
 ghost use Rattle.sstable_blocks.specs.Prelude.{HandleParts};
 
 use lru::LruCache;
@@ -234,6 +234,7 @@ impl<V: Cached> Cache<V> {
             (kept_at self.old.kept (place_at number range.now)) }
         ensures same { kept_at self.new.kept (place_at number range.now)
             ≡ kept_at self.old.kept (place_at number range.now) }
+        ensures latest { result ≡ true → IsLatest self.new.kept (place_at number range.now) }
     {
         let there = self.kept.promote(&key_of(number, range));
         if there {
@@ -244,13 +245,18 @@ impl<V: Cached> Cache<V> {
         there
     }
 
-    // What is kept of a range of a table.
-    pub(crate) fn peek(&self, number: u64, range: &BlockHandle) -> Option<&V>
-        ensures value { option_copied result ≡ kept_at self.now.kept (place_at number range.now) }
-        ensures kept { IfSome result
-            (λ b. IsKept V.is_of self.now.tables (place_at number range.now, b.now)) }
+    // What is the most recently used, such as what the last look-up found: nothing is looked up
+    // again.
+    pub(crate) fn latest(&self) -> Option<&V>
+        ensures value { (place : Place) → IsLatest self.now.kept place
+            → option_copied result ≡ kept_at self.now.kept place }
+        ensures kept { (place : Place) → IsLatest self.now.kept place
+            → IfSome result (λ b. IsKept V.is_of self.now.tables (place, b.now)) }
     {
-        self.kept.peek(&key_of(number, range))
+        match self.kept.peek_mru() {
+            Some((_, value)) => Some(value),
+            None => None,
+        }
     }
 
     // Keeps what was read of a range of a table, with the most recently used that fit beside it.

@@ -92,7 +92,7 @@ fn read_open_part<H: BlockHash, S: FrameSource>(
     )
 }
 
-// The first match of the part in a range, which is kept.
+// The first match of the part in a range, which was looked up and found.
 fn read_kept<H: BlockHash, S: FrameSource>(
     alloc: Global,
     source: &mut S,
@@ -105,6 +105,7 @@ fn read_kept<H: BlockHash, S: FrameSource>(
     steps: &mut Steps,
 ) -> Result<Option<InternalValue>>
     requires kept { IsSome (kept_at parts.now.kept (place_at numbers.now.of_parts range.now)) }
+    requires latest { IsLatest parts.now.kept (place_at numbers.now.of_parts range.now) }
     requires added { AreAdded S.bytes parts.now blocks.old numbers.now source.old }
     ensures source { UsesSource S.bytes S.failures S.reads S.is_reliable
         (AsksUpTo (frames_of_part H.hash64 blocks.old.kept numbers.now.of_blocks range.now
@@ -120,7 +121,7 @@ fn read_kept<H: BlockHash, S: FrameSource>(
         (λ r. ReadsBlock (hashes H.hash64 H.hash128) blocks.old numbers.now.of_blocks
         (block_of_run H.hash64 (Part range.now) r needle.now seqno) result blocks.new) }
 {
-    match parts.peek(numbers.of_parts, range) {
+    match parts.latest() {
         Some(run) => read_open_part(
             alloc,
             source,

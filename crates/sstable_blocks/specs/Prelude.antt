@@ -16,7 +16,7 @@ pub use Rattle.sst_base.specs.ValueType.{value_type_byte, value_type_of}
 pub use Rattle.sst_base.specs.Block.{BlockParts}
 pub use Rattle.sst_base.specs.BlockHandle.{HandleParts}
 pub use Rattle.sst_base.specs.BlockType.{block_type_byte, block_type_of}
-unfoldable pub use Rattle.sst_base.specs.Header.{header_at}
+unfoldable pub use Rattle.sst_base.specs.Header.{header, header_at, header_start}
 pub use Rattle.sst_base.specs.Frame.{demand}
 unfoldable pub use Rattle.sst_base.specs.Frame.{frame, frame_in, payload_of_type}
 pub use Rattle.sst_base.specs.declared.config.HashRatio.{HashRatio}

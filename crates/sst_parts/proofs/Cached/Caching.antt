@@ -2,12 +2,12 @@
 use Rattle.std.proofs.Common.{◌≡◌, ℕ, zero, suc, ◌+◌, ◌-◌, ◌^◌, ◌<◌, ◌≤◌, Bool, true, false, cond, List, [], ◌∷◌, length, take, refl, arith, sym, ◌∙◌, ap, subst, inl, inr, Option, Some, None, IfSome, Result, Ok, Err, Bor}
 use Rattle.std.specs.List.{AllByRecursion, slice_get}
 use Rattle.std.specs.Map.{lookup, lookup_entry, remove_entry}
-use Rattle.std.specs.Option.{option_map_or}
-use Rattle.std.specs.Prelude.{OnOk, is_ok, is_some, nat_eq, nat_le, option_copied}
-use Rattle.std.proofs.lemmas.Bool.{cases_Bool, leb-true, leb-false, eqb-true}
+use Rattle.std.specs.Option.{option_map, option_map_or}
+use Rattle.std.specs.Prelude.{◌&&◌, OnOk, is_ok, is_some, nat_eq, nat_le, option_copied}
+use Rattle.std.proofs.lemmas.Bool.{cases_Bool, leb-true, leb-false, eq-eqb, eqb-true}
 use Rattle.lru.specs.LruCache.{LruCache, promoted, put_entries}
 use Rattle.sstable_blocks.specs.BlockLaws.{and_parts}
-use Rattle.sst_parts.specs.Caches.{CacheParts, Kept, Place, fitting, is_place, kept_at, kept_bytes, looked_up, one_more}
+use Rattle.sst_parts.specs.Caches.{CacheParts, IsLatest, Kept, Place, fitting, is_place, kept_at, kept_bytes, looked_up, one_more}
 
 -- kept things, each of a size
 module _ {V : Type 0} (size : V → ℕ) where
@@ -171,6 +171,27 @@ pub kept_holds : {V : Type 0} (P : Kept V → Type 0) (es : List (Kept V)) (plac
 kept_holds P es place b at all =
     let e = an_entry (is_place place) es b at in
     subst (λ (p : Place). P (p, b)) (sym (same_place place e.0 e.2)) (entry_holds (is_place place) P es (e.0, b) e.1 all)
+
+-- a place is the same as itself
+place_same : (a : Place) → is_place a a ≡ true
+place_same a = ap (λ b. b && (nat_eq a.1.0 a.1.0 && nat_eq a.1.1 a.1.1)) (eq-eqb a.0 a.0 refl) ∙ ap (λ b. b && nat_eq a.1.1 a.1.1) (eq-eqb a.1.0 a.1.0 refl) ∙ eq-eqb a.1.1 a.1.1 refl
+
+-- the most recently used, where it is that of a place, is what is kept of it
+pub latest_kept : {V : Type 0} (es : List (Kept V)) (place : Place) (o : Option (Kept V)) → o ≡ slice_get es 0 → IsLatest es place → option_map (λ (e : Kept V). e.1) o ≡ kept_at es place
+latest_kept [] place o at latest = absurd latest
+latest_kept {V} (x ∷ es) place o at latest =
+    ap (option_map (λ (e : Kept V). e.1)) at
+    ∙ sym (ap (λ b. cond b (Some x.1) (lookup (is_place place) es)) (subst (λ (p : Place). is_place p x.0 ≡ true) latest (place_same x.0)))
+
+-- what a look-up finds is the most recently used then
+latest_moved : {V : Type 0} (es : List (Kept V)) (place : Place) (o : Option V) → kept_at es place ≡ o → is_some o ≡ true → IsLatest (promoted (is_place place) es) place
+latest_moved es place None at some = cc
+latest_moved es place (Some v) at some =
+    let e = an_entry (is_place place) es v at in
+    subst (λ xs. IsLatest xs place) (sym (moved (is_place place) es e.0 v e.1)) (sym (same_place place e.0 e.2))
+
+pub latest_promoted : {V : Type 0} (es : List (Kept V)) (place : Place) → is_some (kept_at es place) ≡ true → IsLatest (promoted (is_place place) es) place
+latest_promoted es place some = latest_moved es place (kept_at es place) refl some
 
 -- a block that is not kept goes first into an unbounded cache
 pub put_first : {V : Type 0} (c : LruCache Place V) (place : Place) (b : V) → kept_at c.entries place ≡ None → c.cap ≡ 2 ^ 64 - 1 → length c.entries < 2 ^ 63 → put_entries is_place c place b ≡ (place, b) ∷ c.entries
