@@ -2,6 +2,7 @@
 pub mod AnyOpenings
 pub mod CopiedTables
 pub mod FileOpenings
+pub mod Kinds
 pub mod OpenParts
 pub mod Openings
 pub mod PartReads

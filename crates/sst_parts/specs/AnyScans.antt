@@ -5,6 +5,8 @@ use Rattle.sstable_blocks.specs.Results.{Error, Io}
 use Rattle.sst_parts.specs.PartScans.{BeginsPartScan, IsSamePartScan, PartScanParts, parts_left}
 use Rattle.sst_parts.specs.declared.any_scan.AnyScan.{AnyScan}
 use Rattle.sst_parts.specs.declared.any_scan.AnyScan.TheVariants as scans
+use Rattle.sst_parts.specs.declared.any_ref_scan.AnyRefScan.{AnyRefScan}
+use Rattle.sst_parts.specs.declared.any_ref_scan.AnyRefScan.TheVariants as refs
 use Rattle.sst_parts.specs.declared.any_table.AnyTable.{AnyTable}
 use Rattle.sst_parts.specs.declared.any_table.AnyTable.TheVariants as tables
 use Rattle.sstable_blocks.specs.RunReading.{Hashes}
@@ -81,3 +83,8 @@ abbrev pub BeginsAnyScan : {H S : Type 0} → Hashes → (S → Option (List ℕ
 BeginsAnyScan c bytes (tables.Plain t) keys (scans.Plain s) = BeginsTableScan c bytes t keys s
 BeginsAnyScan c bytes (tables.Parted t) keys (scans.Parted s) = BeginsPartScan c bytes t keys s
 BeginsAnyScan c bytes t keys s = ⊥
+
+-- the entries left of a scan over borrowed bytes
+abbrev pub ref_left : {H : Type 0} → AnyRefScan H → List Entry
+ref_left (refs.Plain s) = s.left
+ref_left (refs.Parted s) = s.left

@@ -13,7 +13,7 @@ use Rattle.sstable_blocks.specs.FrameCounts.{open_frames}
 use Rattle.sstable_blocks.specs.Lookup.{handle_for}
 use Rattle.sstable_blocks.specs.ManyReads.{FindsAll, many_frames, needle_place}
 use Rattle.sstable_blocks.specs.ReadCosts.{CountsRead}
-use Rattle.sstable_blocks.specs.RunReading.{Hashes, range_at, read_checked}
+use Rattle.sstable_blocks.specs.RunReading.{Hashes, handles_at, range_at, read_checked}
 use Rattle.sstable_blocks.specs.Sound.{FindsFirst, IsSound}
 use Rattle.sstable_blocks.specs.Sources.{AsksExactly, AsksUpTo, FailsAs}
 use Rattle.sstable_blocks.specs.Tables.{LooksBy, frames_by, kept_of, kept_parts, kept_says}
@@ -83,6 +83,11 @@ kept_in (Parted t) = parted (t.top, t.tops)
 abbrev pub index_of : {H S : Type 0} → AnyTable H S → List Handle
 index_of (Plain t) = t.index
 index_of (Parted t) = t.tops
+
+-- these handles, by the bytes of the table
+abbrev pub index_at : {H S : Type 0} → Hashes → List ℕ → AnyTable H S → Result (List Handle) Error
+index_at c bytes (Plain t) = handles_at c bytes t.handles.index
+index_at c bytes (Parted t) = tops_at c bytes t.top
 
 -- the source of a table, and the table with another one
 abbrev pub source_in : {H S : Type 0} → AnyTable H S → S

@@ -1,14 +1,15 @@
 -- Entries of stored tables, parted or of either kind.
-use Rattle.std.specs.Prelude.{ℕ, ◌^◌, nat_lt, ◌&&◌, List, Option, Some, None, IfSome, Result}
+use Rattle.std.specs.Prelude.{◌≡◌, map, ℕ, ◌^◌, nat_lt, ◌&&◌, List, [], length, Option, Some, None, IfSome, Result}
 use Rattle.std.specs.Option.{option_map}
-use Rattle.sstable_blocks.specs.Prelude.{Entry, HandleParts, Handle, demand}
+use Rattle.sstable_blocks.specs.Blocks.{joined}
+use Rattle.sstable_blocks.specs.Prelude.{Entry, HandleParts, Handle, demand, plain}
 use Rattle.sstable_blocks.specs.Results.{◌>>=◌, Error, BadHandle}
 use Rattle.sst_merge.specs.Sources.{Left}
 use Rattle.sst_merge.specs.Stored.{all_keys, are_bytes, checked_list, known_reads, read_errors, scan_list, table_list}
 use Rattle.sst_parts.specs.AnyScans.{ended_in, left_in, most_in, source_of}
 use Rattle.sst_parts.specs.AnyTables.{read_any, source_in}
 use Rattle.sst_parts.specs.PartChecks.{check_parted}
-use Rattle.sst_parts.specs.Parts.{parted_most}
+use Rattle.sst_parts.specs.Parts.{IsParted, parted_most}
 use Rattle.sst_parts.specs.PartScans.{parts_read}
 use Rattle.sst_parts.specs.declared.any_scan.AnyScan.{AnyScan}
 use Rattle.sst_parts.specs.declared.any_table.AnyTable.{AnyTable}
@@ -29,6 +30,12 @@ parted_check_of c bytes top = do
 abbrev pub parted_list : Hashes → Option (List ℕ) → HandleParts → List Handle → Option (List Entry)
 parted_list c None top tops = None
 parted_list c (Some bytes) top tops = checked_list (parted_check_of c bytes top) (known_reads (parts_read c bytes all_keys (handles_within all_keys tops)))
+
+-- bytes are a parted table, and these entries are those of its parts, as decoded
+pub record IsKnownParted (c : Hashes) (bytes : List ℕ) (top : HandleParts) (xs : List Entry) : Type 0 where
+  pub parts : List (List (List Entry))
+  pub parted : IsParted c parts bytes top
+  pub is : xs ≡ map plain (joined (joined parts))
 
 -- the entries of a table of either kind, where its bytes are known and the check of its kind accepts them
 abbrev pub any_list : {H S : Type 0} → Hashes → (S → Option (List ℕ)) → AnyTable H S → Option (List Entry)
@@ -52,3 +59,7 @@ any_left c bytes s = record {
   errors = option_map (λ all. read_errors (left_in c all s)) (bytes (source_of s));
   ended = ended_in s;
 }
+
+-- what is left of a scan whose entries are known, and that never fails
+abbrev pub known_left : List Entry → Left Entry
+known_left items = record { list = Some items; most = length items; errors = Some []; ended = None }

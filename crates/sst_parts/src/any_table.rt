@@ -1,10 +1,11 @@
 //! Tables of either kind in a file.
-ghost use Rattle.std.specs.Prelude.{◌≡◌, IfSome, true};
+ghost use Rattle.std.specs.Prelude.{◌≡◌, IfSome, Ok, true};
 ghost use Rattle.sst_parts.specs.AnyTables.{AsksOfAny, CountsAny, FindsAllInAny, FindsInAny};
 ghost use Rattle.sst_parts.specs.AnyTables.{LooksInAny, OpensAs};
 ghost use Rattle.sst_parts.specs.AnyTables.{any_by_footer, any_by_handles, any_by_type};
 ghost use Rattle.sst_parts.specs.AnyTables.{any_error_after, any_frames, any_source_after};
-ghost use Rattle.sst_parts.specs.AnyTables.{handles_frames, index_of, needles_frames_of_any};
+ghost use Rattle.sst_parts.specs.AnyTables.{handles_frames, index_at, index_of};
+ghost use Rattle.sst_parts.specs.AnyTables.{needles_frames_of_any};
 ghost use Rattle.sst_parts.specs.AnyTables.{parted_by, plain_by, read_any, read_open_any};
 ghost use Rattle.sst_parts.specs.AnyTables.{source_in, type_at, type_frames, with_source};
 ghost use Rattle.sstable_blocks.specs.FrameCounts.{open_frames};
@@ -234,6 +235,8 @@ impl<H: BlockHash, S: FrameSource> AnyTable<H, S> {
     pub fn index(&self) -> &IndexBlock
         ensures items { result.now.items ≡ index_of self.now }
         ensures heads { result.now.heads ≡ true }
+        ensures kept { IfSome (S.bytes (source_in self.now)) (λ all.
+            index_at (hashes H.hash64 H.hash128) all self.now ≡ Ok (index_of self.now)) }
     {
         match self {
             AnyTable::Plain(table) => table.index(),

@@ -5,6 +5,7 @@ ghost use Rattle.std.specs.Prelude.{Some, slice_get};
 ghost use Rattle.std.specs.List.{AllByRecursion, AllZip};
 ghost use Rattle.std.specs.Option.{option_map};
 ghost use Rattle.sst_parts.specs.declared.checking.PartedSummary.{PartedSummary};
+ghost use Rattle.sst_parts.specs.AnyTables.{type_at};
 ghost use Rattle.sst_parts.specs.PartChecks.{check_parted, summary_of_parts};
 ghost use Rattle.sst_parts.specs.PartFinds.{FoundPart, IsReadIndex};
 ghost use Rattle.sst_parts.specs.PartReaders.{read_open_by_top};
@@ -15,8 +16,10 @@ ghost use Rattle.sst_parts.specs.Parts.{IsParted, IsStoredPart, read_by_top, top
 ghost use Rattle.sst_parts.specs.Parts.{tops_by_footer};
 ghost use Rattle.sst_parts.specs.PartScans.{parts_read};
 ghost use Rattle.sst_parts.specs.RefScans.{IsScannedPart};
+ghost use Rattle.sst_parts.specs.StoredParts.{IsKnownParted, parted_list};
 ghost use Rattle.sst_parts.specs.PartWriting.{IsPartedFile, IsPartedLayout};
 ghost use Rattle.sstable_blocks.specs.Blocks.{joined};
+ghost use Rattle.sstable_blocks.specs.BlockTypes.{Index, Meta};
 ghost use Rattle.sstable_blocks.specs.Lookup.{IsEnd, first_in, handle_for, place_for};
 ghost use Rattle.sst_parts.specs.declared.closed.PartOrigin.{PartOrigin};
 ghost use Rattle.sstable_blocks.specs.Opened.{range_of};
@@ -26,6 +29,8 @@ ghost use Rattle.sstable_blocks.specs.Prelude.{handles, IsOrdered, first_match};
 ghost use Rattle.sstable_blocks.specs.Run.{Form};
 ghost use Rattle.sstable_blocks.specs.RunReading.{Hashes, hashes};
 ghost use Rattle.sstable_blocks.specs.Scans.{KeyRange, handles_within, within};
+ghost use Rattle.sstable_blocks.specs.Sound.{IsSound};
+ghost use Rattle.sstable_blocks.specs.declared.run.RunHandles.{RunHandles};
 
 use sstable_blocks::laws::{
     index_block_is_read, index_check_accepts_encodings, index_check_is_by_stages,
@@ -231,4 +236,30 @@ pub fn parted_file_opens()
 {
     index_check_is_by_stages();
     index_block_is_read();
+}
+
+/// The index of a sound run is in a frame of type `Index`, and that of the parts of a parted table
+/// in one of type `Meta`: so [`AnyTable::open`](crate::AnyTable::open) opens each as what it is.
+pub fn kind_is_told()
+    ensures plain { (c : Hashes) (blocks : List (List Entry)) (bytes : List ℕ) (h : RunHandles)
+        → IsSound c blocks bytes h → type_at bytes h.index ≡ Ok Index }
+    ensures parted { (c : Hashes) (parts : List (List (List Entry))) (bytes : List ℕ)
+        (top : HandleParts) → IsParted c parts bytes top → type_at bytes top ≡ Ok Meta }
+{}
+
+/// The entries of a parted table are known to readers and merges of `sst_merge`: they are those of
+/// its parts, as decoded. And where entries of bytes are known, these are a parted table of them.
+pub fn parted_is_known()
+    ensures known { (c : Hashes) (parts : List (List (List Entry))) (bytes : List ℕ)
+        (top : HandleParts) (tops : List Handle) → ((xs : List ℕ) → c.hash128 xs < 2 ^ 128)
+        → IsBytes bytes → IsParted c parts bytes top → tops_at c bytes top ≡ Ok tops
+        → parted_list c (Some bytes) top tops ≡ Some (map plain (joined (joined parts))) }
+    ensures parted { (c : Hashes) (bytes : List ℕ) (top : HandleParts) (tops : List Handle)
+        (xs : List Entry) → ((ys : List ℕ) → c.hash128 ys < 2 ^ 128)
+        → tops_at c bytes top ≡ Ok tops → parted_list c (Some bytes) top tops ≡ Some xs
+        → IsKnownParted c bytes top xs }
+{
+    accepted_parted_is_sound();
+    parted_is_accepted();
+    parted_is_scanned();
 }

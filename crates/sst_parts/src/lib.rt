@@ -6,6 +6,7 @@
 //! blocks and of open parts, which tables share.
 #![tactic(auto)]
 
+pub mod any_ref_scan;
 pub mod any_scan;
 pub mod any_table;
 pub mod block_cache;
@@ -29,6 +30,7 @@ pub mod stored;
 pub mod table;
 pub mod writer;
 
+pub use any_ref_scan::AnyRefScan;
 pub use any_scan::AnyScan;
 pub use any_table::AnyTable;
 pub use block_cache::BlockCache;

@@ -266,7 +266,6 @@ impl<H: BlockHash> PartedTable<H, MemorySource> {
           interval = self.now.interval;
         } }
     {
-        self.note_kept();
         PartedRef {
             bytes: self.source().bytes().as_slice(),
             top: *self.top(),

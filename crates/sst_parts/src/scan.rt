@@ -199,7 +199,7 @@ impl<'k, H: BlockHash, S: FrameSource> PartedScan<'k, H, S> {
             (range_by (λ k. k.now) from.entry to.entry) result }
     {
         parted_is_scanned();
-        table.note_kept();
+        let _index = table.index();
         PartedScan {
             unreached: Unreached::new(table, &from, &to),
             front: ScanEnd::new(from, to),

@@ -2,25 +2,28 @@
 ghost use Rattle.std.specs.Option.{option_map};
 ghost use Rattle.std.specs.Prelude.{IfSome};
 ghost use Rattle.sst_merge.specs.Stored.{MayFailAnyTime, read_errors, scan_list};
+ghost use Rattle.sst_parts.specs.AnyScans.{ref_left};
 ghost use Rattle.sst_parts.specs.PartScans.{parts_left};
 ghost use Rattle.sst_parts.specs.Parts.{parted_most, read_by_top};
 ghost use Rattle.sst_parts.specs.StoredLaws.{any_ordered, parted_ordered};
 ghost use Rattle.sst_parts.specs.StoredParts.{MayFailIn, any_left, any_list, any_most};
-ghost use Rattle.sst_parts.specs.StoredParts.{parted_list};
+ghost use Rattle.sst_parts.specs.StoredParts.{known_left, parted_list};
 ghost use Rattle.sstable_blocks.specs.Lookup.{handle_for};
 ghost use Rattle.sstable_blocks.specs.Prelude.{handles};
 ghost use Rattle.sstable_blocks.specs.RunReading.{hashes};
 ghost use Rattle.sstable_blocks.specs.Sources.{FailsAs};
 
+use crate::any_ref_scan::AnyRefScan;
 use crate::any_scan::AnyScan;
 use crate::any_table::AnyTable;
 use crate::laws::{accepted_parted_is_sound, parted_is_scanned};
+use crate::ref_scan::PartedRefScan;
 use crate::scan::PartedScan;
 use crate::table::PartedTable;
 use sst_merge::{Reader, Source};
 use sstable_blocks::laws::first_match_of_plain;
 use sstable_blocks::run::FrameSource;
-use sstable_blocks::{BlockHash, InternalValue, Result, SeqNo, Steps};
+use sstable_blocks::{BlockHash, EntryView, InternalValue, Result, SeqNo, Steps};
 use std::alloc::Global;
 
 /// A scan of a parted table. Its entries are known where the bytes of the table are, every part
@@ -57,6 +60,34 @@ impl<'k, H: BlockHash, S: FrameSource> Source<InternalValue> for AnyScan<'k, H, 
     }
 }
 
+/// A scan of a parted table over borrowed bytes, whose entries are known. It gives entries that
+/// borrow these bytes, takes no memory, and never fails.
+impl<'a, 'k, H: BlockHash> Source<EntryView<'a>> for PartedRefScan<'a, 'k, H> {
+    ghost left = { λ s. known_left s.left };
+
+    ghost may_fail = { λ _. ⊥ };
+
+    #[inline(always)]
+    fn next_entry(&mut self, _alloc: Global) -> Result<Option<EntryView<'a>>> {
+        Ok(self.next())
+    }
+}
+
+/// The same of a table of either kind.
+impl<'a, 'k, H: BlockHash> Source<EntryView<'a>> for AnyRefScan<'a, 'k, H> {
+    ghost left = { λ s. known_left (ref_left s) };
+
+    ghost may_fail = { λ _. ⊥ };
+
+    #[inline(always)]
+    fn next_entry(&mut self, alloc: Global) -> Result<Option<EntryView<'a>>> {
+        match self {
+            AnyRefScan::Plain(scan) => scan.next_entry(alloc),
+            AnyRefScan::Parted(scan) => scan.next_entry(alloc),
+        }
+    }
+}
+
 /// A parted table. Its entries are known where its bytes are, and the check of a parted table
 /// accepts them; a read counts at most as many heads and entries as [`PartedTable::get`] says.
 impl<H: BlockHash, S: FrameSource> Reader for PartedTable<H, S> {
@@ -83,7 +114,8 @@ impl<H: BlockHash, S: FrameSource> Reader for PartedTable<H, S> {
         accepted_parted_is_sound();
         parted_is_scanned();
         first_match_of_plain();
-        self.note_kept();
+        // It is that of the bytes.
+        let _index = self.index();
         self.get(alloc, needle, seqno, steps)
     }
 }

@@ -311,14 +311,6 @@ impl<H: BlockHash, S: FrameSource> PartedTable<H, S> {
         self.source.read_frame(alloc, &handle)
     }
 
-    // States in a proof that the handles of the parts are those of the source's bytes.
-    pub(crate) fn note_kept(&self)
-        ensures { IfSome (S.bytes self.now.source)
-            (λ all. tops_at (hashes H.hash64 H.hash128) all self.now.top ≡ Ok self.now.tops) }
-    {
-        let _top = &self.top;
-    }
-
     /// Checks all parts of any bytes, with the index of the parts that was kept: accepts exactly a
     /// parted table. Each part is read once, whole, and checked as [`sstable_blocks::run::check`]
     /// checks a run. The parts follow each other from offset 0; no entry sorts before its
@@ -375,6 +367,8 @@ impl<H: BlockHash, S: FrameSource> PartedTable<H, S> {
         ensures items { result.now.items ≡ self.now.tops }
         ensures interval { result.now.interval ≡ self.now.interval }
         ensures heads { result.now.heads ≡ true }
+        ensures kept { IfSome (S.bytes self.now.source)
+            (λ all. tops_at (hashes H.hash64 H.hash128) all self.now.top ≡ Ok self.now.tops) }
     {
         &self.index
     }

@@ -21,6 +21,6 @@ returns g c =
       fresh = (front, back, refl);
       sound = begun_sound h of keys
           (record { table = u.table; range = c.new-2.result.range; front = c.new-2.result.reads; handles = u.handles; back = c.new-3.result.reads; ended = None; most = 0 })
-          range c.new.ensures.handles front back _ c.note_kept.ensures
+          range c.new.ensures.handles front back _ c.index-index.ensures.kept
           (λ all parts parted read. c.parted_is_scanned.ensures h parts all of.top of.tops keys g.met.H.BlockHash.hash128_fits parted read);
     }

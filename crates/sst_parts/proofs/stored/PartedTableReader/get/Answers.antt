@@ -18,7 +18,7 @@ returns-clause-found g c =
     c.args.needle.now c.args.seqno (λ m. IfOk c.get.result (λ found. found ≡ m))
     (λ bytes summary cells size e. (let k = c.accepted_parted_is_sound.ensures h bytes t.top summary cells size e in (k.0, k.1)))
     (λ items. c.first_match_of_plain.ensures c.args.needle.now c.args.seqno items)
-    (g.S.FrameSource.bytes t.source) c.note_kept.ensures c.get.ensures.sound
+    (g.S.FrameSource.bytes t.source) c.index-index.ensures.kept c.get.ensures.sound
 
 pub returns-clause-kept : goal.returns-clause-kept
 returns-clause-kept g c =
