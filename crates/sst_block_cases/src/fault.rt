@@ -14,6 +14,8 @@ pub enum Fault {
     Refused(Error),
     /// An error that is kept was not returned by the next call.
     Forgotten,
+    /// Two ways to the same result gave two.
+    Differs,
     /// A file cannot be read, or the output failed.
     Io,
 }

@@ -1,5 +1,5 @@
 -- A cache, which tables share: what it keeps of ranges of their sources.
-use Rattle.std.specs.Prelude.{◌≡◌, ◌⊎◌, ℕ, ◌+◌, ◌-◌, ◌%◌, ◌^◌, ◌<◌, ◌≤◌, ◌&&◌, nat_eq, nat_le, if◌then◌else◌, Bool, List, [], ◌∷◌, length, slice_get, Option, Some, None, IsSomeAnd}
+use Rattle.std.specs.Prelude.{◌≡◌, ◌⊎◌, ℕ, ◌+◌, ◌-◌, ◌%◌, ◌^◌, ◌<◌, ◌≤◌, ◌&&◌, nat_eq, nat_le, if◌then◌else◌, Bool, List, [], ◌∷◌, ◌++◌, length, slice_get, Option, Some, None, IsSomeAnd}
 use Rattle.std.specs.List.{AllByRecursion}
 use Rattle.std.specs.Map.{lookup}
 use Rattle.lru.specs.LruCache.{promoted}
@@ -39,6 +39,10 @@ pub record CacheParts (V : Type 0) : Type 0 where
 -- a cache that keeps nothing, of no table
 abbrev pub empty_cache : {V : Type 0} → ℕ → CacheParts V
 empty_cache most = record { kept = []; most = most; hits = 0; misses = 0; oversized = 0; failed = 0; tables = [] }
+
+-- the next number was given to a table, whose source has these bytes, if they are known
+abbrev pub IsGiven : {V : Type 0} → CacheParts V → Origin → CacheParts V → Type 0
+IsGiven old o new = new ≡ record old { tables = old.tables ++ o ∷ [] }
 
 -- one more, modulo 2^64
 abbrev pub one_more : ℕ → ℕ

@@ -4,7 +4,7 @@ ghost use Rattle.std.specs.Prelude.{None, IfOk, IfSome, Option};
 ghost use Rattle.std.specs.Prelude.{IfNone, IsNone, IsOkUnless, false, is_some, length};
 ghost use Rattle.std.specs.Prelude.{option_copied, true};
 ghost use Rattle.lru.specs.LruCache.{lru_cache};
-ghost use Rattle.sst_parts.specs.Caches.{IsKept, IsLatest, Keeps, Place, empty_cache, fitting};
+ghost use Rattle.sst_parts.specs.Caches.{IsGiven, IsKept, IsLatest, Keeps, Place, empty_cache, fitting};
 ghost use Rattle.sst_parts.specs.Caches.{kept_at, kept_bytes, looked_up, place_at};
 ghost use Rattle.sstable_blocks.specs.Prelude.{HandleParts};
 
@@ -208,19 +208,24 @@ impl<V: Cached> Cache<V> {
         self.failed
     }
 
+    // Whether all numbers were given out.
+    pub(crate) fn is_used_up(&self) -> bool
+        ensures { result ≡ (length self.now.tables == 2 ^ 64 - 1) }
+    {
+        self.next == u64::MAX
+    }
+
     // Gives a table with this source a number that no other table has, or `None` if there is none.
     pub(crate) fn add<S: FrameSource>(&mut self, source: &S) -> Option<u64>
         ensures number { IfSome result (λ n. n ≡ length self.old.tables) }
-        ensures added { IfSome result (λ _. self.new ≡ record self.old {
-          tables = self.old.tables ++ S.bytes source.now ∷ [];
-        }) }
+        ensures added { IfSome result (λ _. IsGiven self.old (S.bytes source.now) self.new) }
         ensures full { IsNone result ↔ (length self.old.tables ≡ 2 ^ 64 - 1) }
         ensures unchanged { IfNone result (self.new ≡ self.old) }
     {
-        let number = self.next;
-        if number == u64::MAX {
+        if self.is_used_up() {
             return None;
         }
+        let number = self.next;
         self.tables.push_chosen(source);
         self.next = number + 1;
         Some(number)

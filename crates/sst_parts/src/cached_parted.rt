@@ -1,6 +1,8 @@
 //! Parted tables that are read through a cache of open parts and one of their blocks.
-ghost use Rattle.std.specs.Prelude.{◌≡◌, ◌⊎◌, ◌-◌, ◌<◌, ◌^◌, IfErr, IfOk, IfSome, length};
+ghost use Rattle.std.specs.Prelude.{◌≡◌, ◌⊎◌, ◌↔◌, ◌-◌, ◌<◌, ◌^◌, IfErr, IfOk, IfSome, IsErr};
+ghost use Rattle.std.specs.Prelude.{OnErr, length};
 ghost use Rattle.sst_parts.specs.CachedParts.{AreAdded, LeavesCaches, cached_frames, part_for};
+ghost use Rattle.sst_parts.specs.Caches.{IsGiven};
 ghost use Rattle.sst_parts.specs.PartReaders.{read_open_by_top};
 ghost use Rattle.sst_parts.specs.Parts.{FindsInParts, parted_most};
 ghost use Rattle.sstable_blocks.specs.Lookup.{handle_for};
@@ -46,25 +48,33 @@ impl<H: BlockHash, S: FrameSource> CachedParted<H, S> {
         blocks: &mut BlockCache<H>,
         table: PartedTable<H, S>,
     ) -> std::result::Result<CachedParted<H, S>, PartedTable<H, S>>
-        ensures table { IfOk result (λ t. t.table ≡ table) }
+        ensures table { IfOk result (λ t. (t.table ≡ table) × (t.numbers ≡ record {
+          of_parts = length parts.old.tables;
+          of_blocks = length blocks.old.tables;
+        })) }
+        ensures caches { IfOk result (λ _.
+            IsGiven parts.old (S.bytes table.source) parts.new
+            × IsGiven blocks.old (S.bytes table.source) blocks.new) }
         ensures added { IfOk result
             (λ t. AreAdded S.bytes parts.new blocks.new t.numbers t.table.source) }
-        ensures kept { (parts.new.kept ≡ parts.old.kept) × (blocks.new.kept ≡ blocks.old.kept) }
-        ensures returned { IfErr result (λ t. (t ≡ table)
-            × ((length parts.old.tables ≡ 2 ^ 64 - 1)
-            ⊎ (length blocks.old.tables ≡ 2 ^ 64 - 1))) }
+        ensures full { IsErr result ↔ ((length parts.old.tables ≡ 2 ^ 64 - 1)
+            ⊎ (length blocks.old.tables ≡ 2 ^ 64 - 1)) }
+        ensures returned { IfErr result (λ t. t ≡ table) }
+        ensures unchanged { OnErr result ((parts.new ≡ parts.old) × (blocks.new ≡ blocks.old)) }
     {
-        let Some(of_parts) = parts.add(table.source()) else {
+        if parts.is_used_up() || blocks.is_used_up() {
             return Err(table);
-        };
-        let Some(of_blocks) = blocks.add(table.source()) else {
-            return Err(table);
-        };
-        let numbers = Numbers {
-            of_parts,
-            of_blocks,
-        };
-        Ok(CachedParted { table, numbers })
+        }
+        match (parts.add(table.source()), blocks.add(table.source())) {
+            (Some(of_parts), Some(of_blocks)) => {
+                let numbers = Numbers {
+                    of_parts,
+                    of_blocks,
+                };
+                Ok(CachedParted { table, numbers })
+            }
+            _ => unreachable!(),
+        }
     }
 
     /// Returns the first entry with this key whose sequence number is strictly below `seqno`, as

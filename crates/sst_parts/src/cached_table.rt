@@ -1,8 +1,9 @@
 //! Tables that are read through a cache of their blocks.
 ghost use Rattle.std.specs.Prelude.{◌≡◌, ◌-◌, ◌^◌, ◌↔◌, IfOk, IfSome};
-ghost use Rattle.std.specs.Prelude.{◌++◌, ◌∷◌, [], IfErr, IsErr, OnErr, length};
+ghost use Rattle.std.specs.Prelude.{IfErr, IsErr, OnErr, length};
 ghost use Rattle.sst_parts.specs.CachedBlocks.{IsAdded, LeavesBlocks, block_frames};
 ghost use Rattle.sst_parts.specs.CachedBlocks.{block_of_table};
+ghost use Rattle.sst_parts.specs.Caches.{IsGiven};
 ghost use Rattle.sstable_blocks.specs.ReadCosts.{CountsRead};
 ghost use Rattle.sstable_blocks.specs.RunReading.{hashes, read_checked};
 ghost use Rattle.sstable_blocks.specs.Sound.{FindsFirst};
@@ -50,9 +51,8 @@ impl<H: BlockHash, S: FrameSource> CachedTable<H, S> {
     ) -> std::result::Result<CachedTable<H, S>, Table<H, S>>
         ensures table { IfOk result (λ t. (t.table ≡ table)
             × (t.number ≡ length cache.old.tables)) }
-        ensures cache { IfOk result (λ _. cache.new ≡ record cache.old {
-          tables = cache.old.tables ++ S.bytes table.source ∷ [];
-        }) }
+        ensures cache { IfOk result
+            (λ _. IsGiven cache.old (S.bytes table.source) cache.new) }
         ensures added { IfOk result
             (λ t. IsAdded S.bytes cache.new t.number t.table.source) }
         ensures full { IsErr result ↔ (length cache.old.tables ≡ 2 ^ 64 - 1) }

@@ -4,6 +4,7 @@ use sst_base::{SeqNo, Slice};
 use sst_block_cases::fault::{Fault, Result};
 use sst_block_cases::words::{bytes_of, number_of, pair_of, push_word, word_of_found};
 use sst_examples::store::Store;
+use sst_parts::PartSizes;
 use std::alloc::Global;
 
 /// The longest key, and the most bytes of a value.
@@ -91,12 +92,28 @@ fn step(alloc: Global, store: &mut Store, word: &str) -> Result<String> {
     }
 }
 
-/// A story of a new store: STEP .., each `write:KEY:VALUE`, `write:KEY`, which deletes, `snapshot`,
-/// `release:SNAPSHOT`, `flush`, `compact` or `read:KEY:SEQNO`.
-pub fn story(alloc: Global, words: &[&str]) -> Result<String> {
-    let (mut store, mut text) = (Store::new(alloc), String::new(alloc));
+// The story of a new store, whose tables are in parts where their sizes are given.
+fn told(alloc: Global, words: &[&str], parts: Option<PartSizes>) -> Result<String> {
+    let (mut store, mut text) = (Store::new(alloc, parts), String::new(alloc));
     for word in words {
         push_word(&mut text, step(alloc, &mut store, word)?.as_str())?;
     }
     Ok(text)
+}
+
+/// A story of a new store: STEP .., each `write:KEY:VALUE`, `write:KEY`, which deletes, `snapshot`,
+/// `release:SNAPSHOT`, `flush`, `compact` or `read:KEY:SEQNO`. It is told of a store whose tables
+/// are whole, and again of one whose tables are in parts of a block: both have to agree.
+pub fn story(alloc: Global, words: &[&str]) -> Result<String> {
+    let whole = told(alloc, words, None)?;
+    let sizes = PartSizes {
+        blocks: 1,
+        bytes: 0,
+    };
+    let parted = told(alloc, words, Some(sizes))?;
+    if whole.as_str() == parted.as_str() {
+        Ok(whole)
+    } else {
+        Err(Fault::Differs)
+    }
 }

@@ -8,14 +8,21 @@ use Rattle.std.specs.Prelude.{nat_lt, ◌&&◌}
 use Rattle.xxh3.specs.Xxh3Laws.{xxh3_128-below}
 use Rattle.sstable_blocks.specs.Prelude.{HandleParts, IsBytes, Entry, plain, is_in_order, entries, IsOrdered, Handle}
 use Rattle.sstable_blocks.specs.BlockLaws.{length-frame, and_parts, lt_test, some_is}
-use Rattle.sstable_blocks.specs.Results.{Error, BadHandle}
-use Rattle.sstable_blocks.specs.BlockTypes.{BlockType}
+use Rattle.sstable_blocks.specs.Results.{◌>>=◌, Error, BadHandle}
+use Rattle.sstable_blocks.specs.BlockTypes.{Index, Meta}
 use Rattle.sstable_blocks.specs.BlockTypes as types
 use Rattle.sst_merge.specs.Merge.{entry_cmp, merged}
 use Rattle.sstable_blocks.specs.BoundLaws.{plain_ordered}
 use Rattle.sst_merge.specs.Sources.{all_known}
 use Rattle.sst_merge.specs.Stored.{all_keys, are_bytes, check_of, checked_list, filter_fits, known_reads, table_list}
 use Rattle.sst_merge.specs.StoredLaws.{known_all}
+use Rattle.sst_parts.specs.AnyTables.{AnyKept, HasEntries, any_by_handles, any_by_type, index_at, index_of, kept_in, source_in, type_at}
+use Rattle.sst_parts.specs.AnyTables.{plain as plain_kept, parted as parted_kept}
+use Rattle.sst_parts.specs.KnownLaws.{bytes_pass, known_checked, size_fits}
+use Rattle.sst_parts.specs.Parts.{IsParted, tops_at}
+use Rattle.sst_parts.specs.StoredParts.{IsKnownParted, parted_list}
+use Rattle.sst_parts.specs.declared.any_table.AnyTable.TheVariants.{Plain, Parted}
+use Rattle.sstable_blocks.specs.Tables.{kept_of}
 use Rattle.sst_examples.specs.Tables.{MemoryTable, merged_tables, table_entries, table_hashes}
 use Rattle.sstable_blocks.specs.Blocks.{joined}
 use Rattle.sstable_blocks.specs.Run.{IsFramed}
@@ -27,29 +34,16 @@ use Rattle.sstable_blocks.specs.declared.run.RunHandles.{RunHandles}
 use Rattle.sstable_blocks.specs.declared.run.checking.RunSummary.{RunSummary}
 use Rattle.sst_merge.specs.TableReads.{bytes_by, fits_by, order_passes, within_all}
 
-bytes_pass : (bytes : List ℕ) → IsBytes bytes → are_bytes bytes ≡ true
-bytes_pass [] h = refl
-bytes_pass (b ∷ bytes) h = both_true (lt_test b 256 (h 0)) (bytes_pass bytes (λ i. h (suc i)))
-
 module _ (c : Hashes) (bytes : List ℕ) where
-  -- the frame of a payload that fits has less than 2 ^ 32 bytes
-  size_fits : (t : BlockType) (h : HandleParts) (p : List ℕ) → IsFramedAt c t bytes h p → IsFramed p → h.size < 2 ^ 32
-  size_fits t h p frame framed =
-      let inside = frame.inside in
-      let here = length-take-le h.size (drop h.offset bytes) (omega (arith, length-drop h.offset bytes, inside)) in
-      let there = ap length frame.whole in
-      let long = length-frame c.hash128 t p in
-      omega (arith, here, there, long, framed)
-
   filter_passes : (items : List Entry) (o : Option HandleParts) → IfSome o (IsStoredFilter c bytes items) → filter_fits o ≡ true
   filter_passes items None h = refl
-  filter_passes items (Some g) h = lt_test g.size (2 ^ 32) (size_fits types.Filter g h.payload h.frame h.framed)
+  filter_passes items (Some g) h = lt_test g.size (2 ^ 32) (size_fits c bytes types.Filter g h.payload h.frame h.framed)
 
   module _ (h : RunHandles) where
     tests_pass : (blocks : List (List Entry)) → IsBytes bytes → IsSound c blocks bytes h → (are_bytes bytes && (nat_lt h.index.size (2 ^ 32) && filter_fits h.filter)) ≡ true
     tests_pass blocks are sound =
         both_true (bytes_pass bytes are)
-        (both_true (lt_test h.index.size (2 ^ 32) (size_fits types.Index h.index sound.index.payload sound.index.frame sound.index.framed))
+        (both_true (lt_test h.index.size (2 ^ 32) (size_fits c bytes types.Index h.index sound.index.payload sound.index.frame sound.index.framed))
         (filter_passes (joined blocks) h.filter sound.filter))
 
     module _ (index : List Handle) where
@@ -73,30 +67,16 @@ module _ (c : Hashes) (bytes : List ℕ) where
         pub sound : IsSound c blocks bytes h
         pub is : xs ≡ map plain (joined blocks)
 
-      cond_some : (t : Bool) (xs ys : List Entry) → cond t (Some xs) None ≡ Some ys → xs ≡ ys
-      cond_some true xs ys e = cc
-      cond_some false xs ys e = absurd (cc)
-
       cond_ok : (t : Bool) (r : Result RunSummary Error) (s : RunSummary) → cond t r (Err BadHandle) ≡ Ok s → (t ≡ true) × (r ≡ Ok s)
       cond_ok true r s e = (refl, e)
       cond_ok false r s e = absurd (cc)
-
-      pub record IsChecked (r : Result RunSummary Error) (o : Option (List Entry)) (xs : List Entry) : Type 0 where
-        pub summary : RunSummary
-        pub accepted : r ≡ Ok summary
-        pub read : o ≡ Some xs
-
-      checked_by : (r : Result RunSummary Error) (o : Option (List Entry)) (xs : List Entry) → checked_list r o ≡ Some xs → IsChecked r o xs
-      checked_by (Err e) o xs h = absurd (cc)
-      checked_by (Ok s) None xs h = absurd (cc)
-      checked_by (Ok s) (Some ys) xs h = record { summary = s; accepted = refl; read = ap Some (cond_some (is_in_order entry_cmp ys) ys xs h) }
 
       pub listed_sound : (xs : List Entry)
           → ((s : RunSummary) → IsBytes bytes → h.index.size < 2 ^ 32 → IfSome h.filter (λ g. g.size < 2 ^ 32) → check_run c bytes h ≡ Ok s → (blocks : List (List Entry)) × IsSound c blocks bytes h)
           → ((blocks : List (List Entry)) → IsSound c blocks bytes h → blocks_read c bytes all_keys (handles_within all_keys index) ≡ map Ok (within all_keys (map plain (joined blocks))))
           → table_list c (Some bytes) h index ≡ Some xs → IsKnownRun xs
       listed_sound xs accepts scanned e =
-          let k = checked_by (check_of c bytes h) scan_read xs e in
+          let k = known_checked (check_of c bytes h) scan_read xs e in
           let l = cond_ok (are_bytes bytes && (nat_lt h.index.size (2 ^ 32) && filter_fits h.filter)) (check_run c bytes h) k.summary k.accepted in
           let t = and_parts (are_bytes bytes) (nat_lt h.index.size (2 ^ 32) && filter_fits h.filter) l.0 in
           let u = and_parts (nat_lt h.index.size (2 ^ 32)) (filter_fits h.filter) t.1 in
@@ -113,33 +93,72 @@ pub some_known : {X : Type 0} (o : Option X) → is_some o ≡ true → (x : X) 
 some_known None h = absurd (cc)
 some_known (Some x) h = (x, refl)
 
--- the sound run of a table whose entries are known
-pub record IsTableRun (t : MemoryTable) : Type 0 where
-  pub blocks : List (List Entry)
-  pub sound : IsSound table_hashes blocks t.source.inner t.handles
-  pub is : table_entries t ≡ Some (map plain (joined blocks))
+-- a table whose entries are known, and what its bytes have
+pub record HasKnown (t : MemoryTable) : Type 0 where
+  pub items : List Entry
+  pub has : HasEntries table_hashes t (source_in t).inner items
+  pub is : table_entries t ≡ Some (map plain items)
 
-module _ (t : MemoryTable) (at : handles_at table_hashes t.source.inner t.handles.index ≡ Ok t.index) where
-  pub table_run : is_some (table_entries t) ≡ true
-      → ((c : Hashes) (bytes : List ℕ) (h : RunHandles) (s : RunSummary) → IsBytes bytes → h.index.size < 2 ^ 32 → IfSome h.filter (λ g. g.size < 2 ^ 32) → check_run c bytes h ≡ Ok s → (blocks : List (List Entry)) × IsSound c blocks bytes h × (s ≡ summary_of blocks))
-      → ((c : Hashes) (blocks : List (List Entry)) (bytes : List ℕ) (h : RunHandles) (r : KeyRange) (hs : List Handle) → ((xs : List ℕ) → c.hash128 xs < 2 ^ 128) → IsSound c blocks bytes h → handles_at c bytes h.index ≡ Ok hs → blocks_read c bytes r (handles_within r hs) ≡ map Ok (within r (map plain (joined blocks))))
-      → IsTableRun t
-  unfolding table_entries
-  table_run some accepts scanned =
-      let known = some_known (table_entries t) some in
-      let run = listed_sound table_hashes t.source.inner t.handles t.index known.0
-      (λ s are index filter e. (let k = accepts table_hashes t.source.inner t.handles s are index filter e in (k.0, k.1)))
-      (λ blocks sound. scanned table_hashes blocks t.source.inner t.handles all_keys t.index xxh3_128-below sound at) known.1 in
-      record { blocks = run.blocks; sound = run.sound; is = known.1 ∙ ap Some run.is }
+pub known_has : (t : MemoryTable) → index_at table_hashes (source_in t).inner t ≡ Ok (index_of t) → is_some (table_entries t) ≡ true
+    → ((c : Hashes) (bytes : List ℕ) (h : RunHandles) (s : RunSummary) → IsBytes bytes → h.index.size < 2 ^ 32 → IfSome h.filter (λ g. g.size < 2 ^ 32) → check_run c bytes h ≡ Ok s → (blocks : List (List Entry)) × IsSound c blocks bytes h × (s ≡ summary_of blocks))
+    → ((c : Hashes) (blocks : List (List Entry)) (bytes : List ℕ) (h : RunHandles) (r : KeyRange) (hs : List Handle) → ((xs : List ℕ) → c.hash128 xs < 2 ^ 128) → IsSound c blocks bytes h → handles_at c bytes h.index ≡ Ok hs → blocks_read c bytes r (handles_within r hs) ≡ map Ok (within r (map plain (joined blocks))))
+    → ((c : Hashes) (bytes : List ℕ) (top : HandleParts) (tops : List Handle) (xs : List Entry) → ((ys : List ℕ) → c.hash128 ys < 2 ^ 128) → tops_at c bytes top ≡ Ok tops → parted_list c (Some bytes) top tops ≡ Some xs → IsKnownParted c bytes top xs)
+    → HasKnown t
+unfolding table_entries
+known_has (Plain t) at some accepts scanned parted =
+    let known = some_known (table_list table_hashes (Some t.source.inner) t.handles t.index) some in
+    let run = listed_sound table_hashes t.source.inner t.handles t.index known.0
+    (λ s are index filter e. (let k = accepts table_hashes t.source.inner t.handles s are index filter e in (k.0, k.1)))
+    (λ blocks sound. scanned table_hashes blocks t.source.inner t.handles all_keys t.index xxh3_128-below sound at) known.1 in
+    record { items = joined run.blocks; has = (run.blocks, run.sound, refl); is = known.1 ∙ ap Some run.is }
+known_has (Parted t) at some accepts scanned parted =
+    let known = some_known (parted_list table_hashes (Some t.source.inner) t.top t.tops) some in
+    let k = parted table_hashes t.source.inner t.top t.tops known.0 xxh3_128-below at known.1 in
+    record { items = joined (joined k.parts); has = (k.parts, k.parted, refl); is = known.1 ∙ ap Some k.is }
 
+-- what is kept of a plain table is that of its handles, and of a parted one that of the handle of its index
+module _ (h : RunHandles) where
+  not_parted : (r : Result (Option (List ℕ) × List Handle) Error) (x : HandleParts × List Handle) → ◌≡◌ {A = Result AnyKept Error} (r >>= (λ (k : Option (List ℕ) × List Handle). Ok (plain_kept (h, k.0, k.1)))) (Ok (parted_kept x)) → ⊥
+  not_parted (Ok k) x e = cc
+  not_parted (Err error) x e = cc
+
+  same_handles : (r : Result (Option (List ℕ) × List Handle) Error) (x : RunHandles × Option (List ℕ) × List Handle) → ◌≡◌ {A = Result AnyKept Error} (r >>= (λ (k : Option (List ℕ) × List Handle). Ok (plain_kept (h, k.0, k.1)))) (Ok (plain_kept x)) → x.0 ≡ h
+  same_handles (Ok k) x e = cc
+  same_handles (Err error) x e = absurd (cc)
+
+module _ (top : HandleParts) where
+  not_plain : (r : Result (List Handle) Error) (x : RunHandles × Option (List ℕ) × List Handle) → ◌≡◌ {A = Result AnyKept Error} (r >>= (λ (hs : List Handle). Ok (parted_kept (top, hs)))) (Ok (plain_kept x)) → ⊥
+  not_plain (Ok hs) x e = cc
+  not_plain (Err error) x e = cc
+
+  same_top : (r : Result (List Handle) Error) (x : HandleParts × List Handle) → ◌≡◌ {A = Result AnyKept Error} (r >>= (λ (hs : List Handle). Ok (parted_kept (top, hs)))) (Ok (parted_kept x)) → x.0 ≡ top
+  same_top (Ok hs) x e = cc
+  same_top (Err error) x e = absurd (cc)
+
+module _ (bytes : List ℕ) (h : RunHandles) (are : IsBytes bytes) where
   -- a table that was opened over a sound run
-  pub table_opened : (bytes : List ℕ) (h : RunHandles) (blocks : List (List Entry))
+  pub plain_opened : (t : MemoryTable) (blocks : List (List Entry)) → any_by_handles table_hashes bytes h ≡ Ok (kept_in t) → type_at bytes h.index ≡ Ok Index → index_at table_hashes (source_in t).inner t ≡ Ok (index_of t) → (source_in t).inner ≡ bytes
       → ((c : Hashes) (blocks : List (List Entry)) (bytes : List ℕ) (h : RunHandles) (index : List Handle) → ((xs : List ℕ) → c.hash128 xs < 2 ^ 128) → IsBytes bytes → IsSound c blocks bytes h → handles_at c bytes h.index ≡ Ok index → table_list c (Some bytes) h index ≡ Some (map plain (joined blocks)))
-      → IsBytes bytes → IsSound table_hashes blocks bytes h → t.source.inner ≡ bytes → t.handles ≡ h → table_entries t ≡ Some (map plain (joined blocks))
+      → IsSound table_hashes blocks bytes h → table_entries t ≡ Some (map plain (joined blocks))
   unfolding table_entries
-  table_opened bytes h blocks law are sound same_bytes same_handles =
-      law table_hashes blocks t.source.inner t.handles t.index xxh3_128-below (subst IsBytes (sym same_bytes) are)
-      (subst (λ bs. IsSound table_hashes blocks bs t.handles) (sym same_bytes) (subst (IsSound table_hashes blocks bytes) (sym same_handles) sound)) at
+  plain_opened (Parted t) blocks opened kind at same law sound =
+      absurd (not_parted h (kept_of table_hashes bytes h) (t.top, t.tops) (sym (ap (λ r. r >>= any_by_type table_hashes bytes h) kind) ∙ opened))
+  plain_opened (Plain t) blocks opened kind at same law sound =
+      let handles : t.handles ≡ h = same_handles h (kept_of table_hashes bytes h) (t.handles, t.filter, t.index) (sym (ap (λ r. r >>= any_by_type table_hashes bytes h) kind) ∙ opened) in
+      law table_hashes blocks t.source.inner t.handles t.index xxh3_128-below (subst IsBytes (sym same) are)
+      (subst (λ bs. IsSound table_hashes blocks bs t.handles) (sym same) (subst (IsSound table_hashes blocks bytes) (sym handles) sound)) at
+
+  -- and one over a parted table
+  pub parted_opened : (t : MemoryTable) (parts : List (List (List Entry))) → any_by_handles table_hashes bytes h ≡ Ok (kept_in t) → type_at bytes h.index ≡ Ok Meta → index_at table_hashes (source_in t).inner t ≡ Ok (index_of t) → (source_in t).inner ≡ bytes
+      → ((c : Hashes) (parts : List (List (List Entry))) (bytes : List ℕ) (top : HandleParts) (tops : List Handle) → ((xs : List ℕ) → c.hash128 xs < 2 ^ 128) → IsBytes bytes → IsParted c parts bytes top → tops_at c bytes top ≡ Ok tops → parted_list c (Some bytes) top tops ≡ Some (map plain (joined (joined parts))))
+      → IsParted table_hashes parts bytes h.index → table_entries t ≡ Some (map plain (joined (joined parts)))
+  unfolding table_entries
+  parted_opened (Plain t) parts opened kind at same law parted =
+      absurd (not_plain h.index (tops_at table_hashes bytes h.index) (t.handles, t.filter, t.index) (sym (ap (λ r. r >>= any_by_type table_hashes bytes h) kind) ∙ opened))
+  parted_opened (Parted t) parts opened kind at same law parted =
+      let top : t.top ≡ h.index = same_top h.index (tops_at table_hashes bytes h.index) (t.top, t.tops) (sym (ap (λ r. r >>= any_by_type table_hashes bytes h) kind) ∙ opened) in
+      law table_hashes parts t.source.inner t.top t.tops xxh3_128-below (subst IsBytes (sym same) are)
+      (subst (λ bs. IsParted table_hashes parts bs t.top) (sym same) (subst (IsParted table_hashes parts bytes) (sym top) parted)) at
 
 module _ {X : Type 0} where
   some_rest : (x : X) (o : Option (List X)) → is_some (option_map (λ rest. x ∷ rest) o) ≡ true → is_some o ≡ true

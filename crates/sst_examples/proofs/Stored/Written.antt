@@ -8,13 +8,20 @@ use Rattle.sstable_blocks.specs.Prelude.{Entry}
 use Rattle.sstable_blocks.specs.BlockLaws.{some_is}
 use Rattle.sst_merge.specs.Merge.{entry_cmp, merged}
 use Rattle.sst_merge.specs.Sources.{Left, all_known}
-use Rattle.sst_merge.specs.Stored.{table_list}
 use Rattle.sst_merge.specs.Tables.{IsTableOf as IsWrittenTable}
 use Rattle.sst_merge.specs.declared.writing.Sizes.{Sizes}
-use Rattle.sst_examples.specs.Tables.{MemoryTable, merged_tables, table_entries, table_hashes}
+use Rattle.sst_parts.specs.PartKinds.{parted_kind}
+use Rattle.sst_parts.specs.PartWriting.{IsPartedLayout, top_handles}
+use Rattle.sst_parts.specs.StoredParts.{any_list}
+use Rattle.sst_parts.specs.declared.writer.PartSizes.{PartSizes}
+use Rattle.sst_examples.specs.Tables.{IsWrittenAs, MemoryTable, merged_tables, table_entries, table_hashes}
 use Rattle.sstable_blocks.specs.Blocks.{joined}
 use Rattle.sstable_blocks.specs.Run.{Form, IsLayout}
-use Rattle.sstable_blocks.specs.TableKinds.{run_kind}
+use Rattle.sstable_blocks.specs.Footer.{footer}
+use Rattle.sstable_blocks.specs.RunLaws.{joined_push}
+use Rattle.sstable_blocks.specs.Sources.{SourceParts}
+use Rattle.sstable_blocks.specs.TableKinds.{TableKind}
+use Rattle.sstable_blocks.specs.Writing.{AppendsLayout}
 use Rattle.sstable_blocks.specs.declared.run.RunHandles.{RunHandles}
 
 -- the lists of sources that have a table's entries each
@@ -50,23 +57,36 @@ known_by os (Some all) older e h = record { all = all; known = e; is = some_is (
 pub lists_known : (tables : List MemoryTable) (older : List Entry) → merged_tables tables ≡ Some older → AreKnown (map table_entries tables) older
 lists_known tables older h = known_by (map table_entries tables) (all_known (map table_entries tables)) older refl h
 
--- the layout of a run of these entries
-pub record IsRunOf (f : Form) (bytes : List ℕ) (h : RunHandles) (items : List Entry) : Type 0 where
-  pub blocks : List (List Entry)
-  pub layout : IsLayout f blocks bytes h
-  pub is : joined blocks ≡ items
-
 all_taken : (items all : List Entry) (after : Option (List Entry)) → Some items ≡ option_map (λ rest. all ++ rest) after → IfSome after (λ xs. xs ≡ []) → all ≡ items
 all_taken items all None taken none = absurd (cc)
 all_taken items all (Some rest) taken none = sym (some_is items (all ++ rest) taken ∙ ap (λ xs. all ++ xs) none ∙ append-nil all)
 
 -- a table after which nothing is left has all entries
-pub all_written : (f : Form) (sizes : Sizes) (start bytes : List ℕ) (h : RunHandles) (items : List Entry) (before after : Option (List Entry)) → IsWrittenTable (run_kind f) sizes (Some start) (Some bytes) h before after → start ≡ [] → before ≡ Some items → IfSome after (λ xs. xs ≡ []) → IsRunOf f bytes h items
-all_written f sizes start bytes h items before after t empty known none = record {
-  blocks = t.blocks;
-  layout = subst (λ text. IsLayout f t.blocks text h) (sym (t.layout.2 ∙ ap (λ xs. xs ++ t.layout.0) empty)) t.layout.1;
-  is = all_taken items (joined t.blocks) after (sym known ∙ t.taken) none;
-}
+pub all_written : (kind : TableKind) (sizes : Sizes) (start bytes : List ℕ) (h : RunHandles) (items : List Entry) (before after : Option (List Entry)) → IsWrittenTable kind sizes (Some start) (Some bytes) h before after → start ≡ [] → before ≡ Some items → IfSome after (λ xs. xs ≡ []) → IsWrittenAs kind items (Some (h, bytes))
+all_written kind sizes start bytes h items before after t empty known none =
+    (t.blocks, subst (λ xs. kind.appends t.blocks (Some xs) (Some bytes) h) empty t.layout, all_taken items (joined t.blocks) after (sym known ∙ t.taken) none)
+
+-- the layout of a run that was written into an empty vector
+pub run_written : (f : Form) (bytes : List ℕ) (h : RunHandles) (blocks : List (List Entry)) → AppendsLayout f blocks (Some []) (Some bytes) h → IsLayout f blocks bytes h
+run_written f bytes h blocks t = subst (λ text. IsLayout f blocks text h) (sym t.2) t.1
+
+-- the parts of a parted table that was written into an empty vector, with a footer behind it
+pub record IsFileOf (f : Form) (bytes : List ℕ) (h : RunHandles) (items : List Entry) : Type 0 where
+  pub parts : List (List (List Entry))
+  pub layout : IsPartedLayout f parts bytes h.index
+  pub is : joined (joined parts) ≡ items
+
+pub file_written : (f : Form) (sizes : PartSizes) (bytes whole : List ℕ) (h : RunHandles) (items : List Entry) → IsWrittenAs (parted_kind f sizes) items (Some (h, bytes)) → whole ≡ bytes ++ footer h → IsFileOf f whole h items
+file_written f sizes bytes whole h items w with_footer =
+    let t = w.1 in
+    let parts : List (List (List Entry)) = t.closed ++ t.last ∷ [] in
+    let top : t.top ≡ h.index = sym (ap (λ (r : RunHandles). r.index) t.handles_are) in
+    let text : t.appended.0 ++ footer (top_handles t.top) ≡ whole = ap (λ xs. xs ++ footer (top_handles t.top)) (sym t.appended.2) ∙ ap (λ r. bytes ++ footer r) (sym t.handles_are) ∙ sym with_footer in
+    record {
+      parts = parts;
+      layout = subst (IsPartedLayout f parts whole) top (subst (λ xs. IsPartedLayout f parts xs t.top) text t.appended.1);
+      is = ap joined (joined_push t.closed t.last ∙ sym t.cut.whole) ∙ w.2;
+    }
 
 -- clones are the same
 pub zip_same : {X : Type 0} (xs ys : List X) → AllZip (λ e copy. copy ≡ e) xs ys → ys ≡ xs
@@ -77,7 +97,7 @@ zip_same (x ∷ xs) (y ∷ ys) h = ap (λ z. z ∷ ys) h.0 ∙ ap (λ zs. x ∷ 
 
 -- the entries of a table, as a reader knows them
 abbrev raw : MemoryTable → Option (List Entry)
-raw t = table_list table_hashes (Some t.source.inner) t.handles t.index
+raw t = any_list table_hashes (λ (s : SourceParts (List ℕ)). Some s.inner) t
 
 -- lists that are known are those that a reader knows
 pub reader_lists : (tables lent : List MemoryTable) (all : List (List Entry)) → lent ≡ tables → all_known (map table_entries tables) ≡ Some all → all_known (map raw lent) ≡ Some all

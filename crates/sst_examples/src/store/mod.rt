@@ -1,5 +1,6 @@
 //! A small store of versions of keys, over `sst_merge`: writes go into an ordered list in memory,
-//! which is flushed into a table, and the tables are compacted into one. Tables are in memory too.
+//! which is flushed into a table, and the tables are compacted into one. Tables are in memory too,
+//! whole or in parts.
 ghost use Rattle.std.specs.Prelude.{◌≡◌, ◌≤◌, ◌<◌, ◌^◌, ℕ, List, ◌∷◌, [], Some, None, map, length};
 ghost use Rattle.std.specs.Prelude.{true};
 ghost use Rattle.std.specs.Prelude.{IfErr, IfOk, OnOk, OnErr, ◌+◌, ◌++◌, filter, nat_eq, not};
@@ -17,6 +18,7 @@ use crate::store::memory::{newest, place_of, shown};
 use crate::store::tables::{Stored, add_table, merge_of, table_of};
 use sst_merge::laws::compaction_keeps_reads;
 use sst_merge::{Compact, read_tables};
+use sst_parts::PartSizes;
 use sstable_blocks::laws::first_match_of_plain;
 use sstable_blocks::{
     Error, InternalValue, Result, SeqNo, Slice, Steps, UserKey, UserValue, ValueType,
@@ -36,6 +38,7 @@ pub struct Store {
     tables: Vec<Stored>,
     next: SeqNo,
     snapshots: Vec<SeqNo>,
+    parts: Option<PartSizes>,
 }
 
 impl Model for Store {
@@ -51,8 +54,9 @@ impl Model for Store {
 }
 
 impl Store {
-    /// Makes an empty store, whose next sequence number is 0.
-    pub fn new(alloc: Global) -> Store
+    /// Makes an empty store, whose next sequence number is 0. Its tables are in parts where their
+    /// sizes are given.
+    pub fn new(alloc: Global, parts: Option<PartSizes>) -> Store
         ensures { result ≡ record { memory = []; stored = []; next = 0; snapshots = [] } }
     {
         Store {
@@ -61,6 +65,7 @@ impl Store {
             tables: Vec::new(alloc),
             next: 0,
             snapshots: Vec::new(alloc),
+            parts,
         }
     }
 
@@ -180,7 +185,7 @@ impl Store {
         ensures err { OnErr result (self.new ≡ self.old) }
     {
         let memory = self.memory.clone()?;
-        let table = table_of(self.alloc, memory.into_iter())?;
+        let table = table_of(self.alloc, memory.into_iter(), self.parts)?;
         add_table(&mut self.tables, table)?;
         self.memory.clear();
         Ok(())
@@ -252,7 +257,8 @@ impl Store {
         first_match_of_plain();
         let snapshots = self.read_numbers()?;
         let merged = merge_of(self.alloc, &self.tables)?;
-        let table = table_of(self.alloc, Compact::new(merged, snapshots, true))?;
+        let compacted = Compact::new(merged, snapshots, true);
+        let table = table_of(self.alloc, compacted, self.parts)?;
         let mut tables = Vec::new(self.alloc);
         add_table(&mut tables, table)?;
         self.tables = tables;

@@ -1,21 +1,12 @@
-use Rattle.std.proofs.Common.{Some, map, ◌∙◌, ap, sym, subst}
-use Rattle.sstable_blocks.specs.Prelude.{plain}
-use Rattle.sst_examples.proofs.Stored.Listed.{table_run}
-use Rattle.sst_examples.specs.Tables.{table_hashes}
+use Rattle.std.proofs.Common.{Some, ◌∙◌, ap, sym}
+use Rattle.sst_examples.proofs.Stored.Listed.{HasKnown, known_has}
 use Rattle.sst_examples.proofs.store.tables.scan_of.Goals as goal
-use Rattle.sstable_blocks.specs.Blocks.{joined}
-use Rattle.sstable_blocks.specs.Scans.{within}
-use Rattle.sstable_blocks.specs.Sound.{IsSound}
-use Rattle.sst_merge.specs.TableReads.{within_all}
 
-pub trusted-requires : goal.trusted-requires
-trusted-requires c =
-    let run = table_run c.args.table.now c.index-index.ensures.kept c.requires c.accepted_run_is_sound.ensures c.sound_is_scanned.ensures in
-    (run.blocks, run.sound)
+known : (c : goal.After-index) → HasKnown c.args.table.now
+known c = known_has c.args.table.now c.index-index.ensures.kept c.requires c.accepted_run_is_sound.ensures c.sound_is_scanned.ensures c.parted_is_known.ensures.parted
+
+pub trusted_scan-requires : goal.trusted_scan-requires
+trusted_scan-requires c = ((known c).items, (known c).has)
 
 pub returns : goal.returns
-returns c =
-    let run = table_run c.args.table.now c.index-index.ensures.kept c.requires c.accepted_run_is_sound.ensures c.sound_is_scanned.ensures in
-    let items = map plain (joined run.blocks) in
-    let left = c.scan.ensures.left run.blocks (subst (λ r. IsSound table_hashes run.blocks r.bytes r.handles) (sym c.trusted.ensures) run.sound) in
-    run.is ∙ ap Some (sym (left ∙ within_all items))
+returns c = (known c).is ∙ ap Some (sym (c.trusted_scan.ensures (known c).items (known c).has))
