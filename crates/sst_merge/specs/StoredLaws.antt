@@ -15,9 +15,6 @@ pub known_all : (xs : List Entry) → known_reads (map Ok xs) ≡ Some xs
 known_all [] = refl
 known_all (x ∷ xs) = ap (option_map (λ ys. x ∷ ys)) (known_all xs)
 
-same_bytes : (new old : Option Error) (b c : Option (List ℕ)) (r : List ℕ → List Read) → c ≡ b → scan_list new c r ≡ scan_list new b r
-same_bytes new old b c r e = ap (λ o. scan_list new o r) e
-
 first_some : (b : Option (List ℕ)) (r s : List ℕ → List Read) (x : Entry) → IfSome b (λ all. r all ≡ Ok x ∷ s all) → scan_list None b r ≡ option_map (λ xs. x ∷ xs) (scan_list None b s)
 first_some None r s x h = refl
 first_some (Some all) r s x h = ap known_reads h
