@@ -7,8 +7,8 @@ use Rattle.sstable_blocks.specs.BlockLaws.{length-frame, lt_test, some_is}
 use Rattle.sstable_blocks.specs.BlockTypes.{BlockType, Meta}
 use Rattle.sstable_blocks.specs.Blocks.{joined}
 use Rattle.sstable_blocks.specs.BoundLaws.{plain_ordered}
-use Rattle.sstable_blocks.specs.Prelude.{HandleParts, IsBytes, Entry, Handle, is_in_order, plain}
-use Rattle.sstable_blocks.specs.Results.{Error, BadHandle}
+use Rattle.sstable_blocks.specs.Prelude.{HandleParts, IsBytes, Entry, Handle, demand, is_in_order, plain}
+use Rattle.sstable_blocks.specs.Results.{◌>>=◌, Error, BadHandle}
 use Rattle.sstable_blocks.specs.Run.{IsFramed}
 use Rattle.sstable_blocks.specs.RunReading.{Hashes, IsFramedAt}
 use Rattle.sstable_blocks.specs.Scans.{handles_within, within}
@@ -65,7 +65,7 @@ module _ (c : Hashes) (top : HandleParts) (tops : List Handle)
         let xs : List Entry = map plain (joined (joined parts)) in
         let fits = size_fits c bytes Meta top is.index.payload is.index.frame is.index.framed in
         let tests : (are_bytes bytes && nat_lt top.size (2 ^ 32)) ≡ true = both_true (bytes_pass bytes are) (lt_test top.size (2 ^ 32) fits) in
-        let checked : parted_check_of c bytes top ≡ Ok (summary_of_parts parts) = ap (λ t. cond t (check_parted c bytes top) (Err BadHandle)) tests ∙ accepted in
+        let checked : parted_check_of c bytes top ≡ Ok (summary_of_parts parts) = ap (λ t. demand t BadHandle >>= (λ fits. check_parted c bytes top)) tests ∙ accepted in
         ap (λ r. checked_list r (read_of bytes)) checked
         ∙ ap (checked_list {S = PartedSummary} (Ok (summary_of_parts parts))) (parts_known c top tops scanned parts bytes is at)
         ∙ ap (λ t. cond t (Some xs) None) (order_passes xs (plain_ordered (joined (joined parts)) is.ordered))

@@ -6,7 +6,7 @@ ghost use Rattle.sst_parts.specs.CachedParts.{AreAdded, IsOpenIn, LeavesCaches, 
 ghost use Rattle.sst_parts.specs.CachedParts.{ReadsPartIn, filter_bytes};
 ghost use Rattle.sst_parts.specs.CachedParts.{cached_frames, frames_of_part, open_bytes, part_for};
 ghost use Rattle.sst_parts.specs.CachedBlocks.{ReadsBlock, block_of_run};
-ghost use Rattle.sst_parts.specs.Caches.{kept_at, place_at};
+ghost use Rattle.sst_parts.specs.Caches.{IsLatest, kept_at, place_at};
 ghost use Rattle.sst_parts.specs.PartReaders.{read_open, read_open_by_top};
 ghost use Rattle.sst_parts.specs.Parts.{FindsInParts, most_by_places, parted_most, places_in};
 ghost use Rattle.sstable_blocks.specs.Lookup.{handle_for};

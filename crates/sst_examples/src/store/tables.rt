@@ -74,11 +74,7 @@ fn open_table(alloc: Global, bytes: Vec<u8>, handles: RunHandles) -> Result<Stor
 }
 
 // Writes all that is left of a source as one table of a kind into memory, if something is left.
-fn write_as<
-    K: TableWriter<T, Writer = Vec<u8>>,
-    T: Ranked + AsEntry + Drop,
-    I: Source<T> + Drop,
->(
+fn write_as<K: TableWriter<T, Writer = Vec<u8>>, T: Ranked + AsEntry + Drop, I: Source<T> + Drop>(
     alloc: Global,
     source: I,
     form: K::Form,
@@ -92,8 +88,8 @@ fn write_as<
         table: usize::MAX,
     };
     let mut head = Head::new(alloc, source)?;
-    let (written, bytes) =
-        write_table::<K, T, I>(alloc, &mut head, Vec::new(alloc), form, sizes)?;
+    let writer = Vec::new(alloc);
+    let (written, bytes) = write_table::<K, T, I>(alloc, &mut head, writer, form, sizes)?;
     let Some(handles) = written else {
         return Ok(None);
     };

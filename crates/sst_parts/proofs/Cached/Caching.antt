@@ -1,10 +1,10 @@
 -- What a cache keeps: as a list, from the most recently used to the least.
-use Rattle.std.proofs.Common.{◌≡◌, ℕ, zero, suc, ◌+◌, ◌-◌, ◌^◌, ◌<◌, ◌≤◌, Bool, true, false, cond, List, [], ◌∷◌, length, take, refl, arith, sym, ◌∙◌, ap, subst, inl, inr, Option, Some, None, IfSome, Result, Ok, Err, Bor}
+use Rattle.std.proofs.Common.{◌≡◌, ℕ, zero, suc, ◌+◌, ◌-◌, ◌^◌, ◌<◌, ◌≤◌, Bool, true, false, cond, List, [], ◌∷◌, length, take, refl, arith, sym, ◌∙◌, ap, subst, inl, inr, Option, Some, None, Result, Ok, Err}
 use Rattle.std.specs.List.{AllByRecursion, slice_get}
 use Rattle.std.specs.Map.{lookup, lookup_entry, remove_entry}
-use Rattle.std.specs.Option.{option_map, option_map_or}
-use Rattle.std.specs.Prelude.{◌&&◌, OnOk, is_ok, is_some, nat_eq, nat_le, option_copied}
-use Rattle.std.proofs.lemmas.Bool.{cases_Bool, leb-true, leb-false, eq-eqb, eqb-true}
+use Rattle.std.specs.Option.{option_map_or}
+use Rattle.std.specs.Prelude.{OnOk, is_ok, is_some, nat_eq, nat_le}
+use Rattle.std.proofs.lemmas.Bool.{cases_Bool, leb-true, leb-false, eqb-true}
 use Rattle.lru.specs.LruCache.{LruCache, promoted, put_entries}
 use Rattle.sstable_blocks.specs.BlockLaws.{and_parts}
 use Rattle.sst_parts.specs.Caches.{CacheParts, IsLatest, Kept, Place, fitting, is_place, kept_at, kept_bytes, looked_up, one_more}
@@ -172,17 +172,6 @@ kept_holds P es place b at all =
     let e = an_entry (is_place place) es b at in
     subst (λ (p : Place). P (p, b)) (sym (same_place place e.0 e.2)) (entry_holds (is_place place) P es (e.0, b) e.1 all)
 
--- a place is the same as itself
-place_same : (a : Place) → is_place a a ≡ true
-place_same a = ap (λ b. b && (nat_eq a.1.0 a.1.0 && nat_eq a.1.1 a.1.1)) (eq-eqb a.0 a.0 refl) ∙ ap (λ b. b && nat_eq a.1.1 a.1.1) (eq-eqb a.1.0 a.1.0 refl) ∙ eq-eqb a.1.1 a.1.1 refl
-
--- the most recently used, where it is that of a place, is what is kept of it
-pub latest_kept : {V : Type 0} (es : List (Kept V)) (place : Place) (o : Option (Kept V)) → o ≡ slice_get es 0 → IsLatest es place → option_map (λ (e : Kept V). e.1) o ≡ kept_at es place
-latest_kept [] place o at latest = absurd latest
-latest_kept {V} (x ∷ es) place o at latest =
-    ap (option_map (λ (e : Kept V). e.1)) at
-    ∙ sym (ap (λ b. cond b (Some x.1) (lookup (is_place place) es)) (subst (λ (p : Place). is_place p x.0 ≡ true) latest (place_same x.0)))
-
 -- what a look-up finds is the most recently used then
 latest_moved : {V : Type 0} (es : List (Kept V)) (place : Place) (o : Option V) → kept_at es place ≡ o → is_some o ≡ true → IsLatest (promoted (is_place place) es) place
 latest_moved es place None at some = cc
@@ -213,11 +202,6 @@ looked_up_found v place (Some b) at some = refl
 pub looked_up_missed : {V : Type 0} (v : CacheParts V) (place : Place) (o : Option V) → kept_at v.kept place ≡ o → is_some o ≡ false → record v { kept = promoted (is_place place) v.kept; misses = one_more v.misses } ≡ looked_up v place o
 looked_up_missed {V} v place None at none = ap (λ (es : List (Kept V)). record v { kept = es; misses = one_more v.misses }) (promoted_none (is_place place) v.kept at)
 looked_up_missed v place (Some b) at none = cc
-
--- what is shown of a place is its block
-pub kept_shown : {V : Type 0} (P : Kept V → Type 0) (es : List (Kept V)) (place : Place) (r : Option (Bor V)) → option_copied r ≡ kept_at es place → AllByRecursion P es → IfSome r (λ b. P (place, b.now))
-kept_shown P es place None at all = tt
-kept_shown P es place (Some b) at all = kept_holds P es place b.now (sym at) all
 
 pub ok_gives : {X E : Type 0} (r : Result X E) (P : Type 0) → is_ok r ≡ true → OnOk r P → P
 ok_gives (Ok x) P is on = on

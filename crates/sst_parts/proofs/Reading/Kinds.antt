@@ -4,18 +4,11 @@ use Rattle.std.specs.Prelude.{nat_le, slice_index}
 use Rattle.std.proofs.lemmas.Bool.Decides.{nat_tests}
 use Rattle.std.proofs.lemmas.List.{take-take, length-take-le, length-drop}
 use Rattle.sstable_blocks.specs.BlockLaws.{length-frame}
-use Rattle.sstable_blocks.specs.BlockTypes.{BlockType, Data, Index, Filter, Meta}
+use Rattle.sstable_blocks.specs.BlockTypes.{BlockType}
 use Rattle.sstable_blocks.specs.Prelude.{HandleParts, block_type_byte, block_type_of, frame, header, header_start}
 use Rattle.sstable_blocks.specs.Results.{◌>>=◌, BadHandle}
 use Rattle.sstable_blocks.specs.RunReading.{Hashes, IsFramedAt, range_at}
 use Rattle.sst_parts.specs.AnyTables.{header_place, type_at}
-
--- a type is read of its byte
-type_of_byte : (t : BlockType) → block_type_of (block_type_byte t) ≡ Ok t
-type_of_byte Data = refl
-type_of_byte Index = refl
-type_of_byte Filter = refl
-type_of_byte Meta = refl
 
 -- the byte at its place in a frame
 type_in_frame : (hash128 : List ℕ → ℕ) (t : BlockType) (p : List ℕ) → slice_index (take 33 (frame hash128 t p)) 4 ≡ block_type_byte t
@@ -36,7 +29,7 @@ header_in_range c t bytes h p is =
     ∙ ap (λ xs. Ok xs) (sym (take-take 33 h.size (drop h.offset bytes) long) ∙ ap (take 33) is.whole)
 
 -- so its type is told
-pub framed_type : (c : Hashes) (t : BlockType) (bytes : List ℕ) (h : HandleParts) (p : List ℕ) → IsFramedAt c t bytes h p → type_at bytes h ≡ Ok t
-framed_type c t bytes h p is =
+pub framed_type : (c : Hashes) (t : BlockType) (bytes : List ℕ) (h : HandleParts) (p : List ℕ) → block_type_of (block_type_byte t) ≡ Ok t → IsFramedAt c t bytes h p → type_at bytes h ≡ Ok t
+framed_type c t bytes h p told is =
     ap (λ r. r >>= (λ (header : List ℕ). block_type_of (slice_index header 4))) (header_in_range c t bytes h p is)
-    ∙ ap block_type_of (type_in_frame c.hash128 t p) ∙ type_of_byte t
+    ∙ ap block_type_of (type_in_frame c.hash128 t p) ∙ told

@@ -3,8 +3,8 @@ use Rattle.std.specs.List.{AllByRecursion}
 use Rattle.std.specs.Map.{lookup}
 use Rattle.std.specs.Prelude.{is_some}
 use Rattle.lru.specs.LruCache.{LruCache, lru_cache, promoted}
-use Rattle.sst_parts.proofs.Cached.Caching.{all_promoted, bytes_promoted, lookup_promoted, looked_up_found, looked_up_missed}
-use Rattle.sst_parts.specs.Caches.{CacheParts, IsKept, Place, is_place, kept_at, kept_bytes, looked_up, one_more, place_at}
+use Rattle.sst_parts.proofs.Cached.Caching.{all_promoted, bytes_promoted, latest_promoted, lookup_promoted, looked_up_found, looked_up_missed}
+use Rattle.sst_parts.specs.Caches.{CacheParts, IsKept, IsLatest, Place, is_place, kept_at, kept_bytes, looked_up, one_more, place_at}
 use Rattle.sst_parts.proofs.cache.Cache.look_up.Goals as goal
 
 pub invariant_of-self : goal.invariant_of-self
@@ -60,3 +60,10 @@ returns-else-there-clause-same g c =
     let place : Place = place_at c.args.number c.args.range.now in
     subst (λ (w : CacheParts g.row.V.Denot). kept_at c.promote-there.new.self.entries place ≡ kept_at w.kept place) c.self.view_is
     (ap (λ (x : LruCache Place g.row.V.Denot). kept_at x.entries place) (subst (λ (k : Place). c.promote-there.new.self ≡ lru_cache (promoted (is_place k) c.self.inside.kept.entries) c.self.inside.kept.cap) c.key_of.ensures c.promote-there.ensures.entries) ∙ lookup_promoted (is_place place) c.self.inside.kept.entries)
+
+pub returns-then-there-clause-latest : goal.returns-then-there-clause-latest
+returns-then-there-clause-latest g c = λ yes.
+    let place : Place = place_at c.args.number c.args.range.now in
+    let e = (subst (λ (k : Place). c.promote-there.new.self ≡ lru_cache (promoted (is_place k) c.self.inside.kept.entries) c.self.inside.kept.cap) c.key_of.ensures c.promote-there.ensures.entries) in
+    let some = sym (subst (λ (k : Place). c.promote-there.result ≡ is_some (lookup (is_place k) c.self.inside.kept.entries)) c.key_of.ensures c.promote-there.ensures.value) ∙ yes in
+    subst (λ (x : LruCache Place g.row.V.Denot). IsLatest x.entries place) (sym e) (latest_promoted c.self.inside.kept.entries place some)
