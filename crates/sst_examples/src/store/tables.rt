@@ -1,5 +1,6 @@
 //! The tables: written into memory, opened, and scanned.
 ghost use Rattle.std.specs.Prelude.{◌≡◌, List, [], Some, map, IfOk, OnOk, OnErr, IsSome};
+ghost use Rattle.std.specs.Option.{option_map};
 ghost use Rattle.sst_examples.specs.Tables.{HoldsEntries, IsWrittenAs, merged_tables, table_entries};
 ghost use Rattle.sst_examples.specs.Tables.{table_hashes};
 ghost use Rattle.sst_merge.specs.Sources.{before};
@@ -81,7 +82,8 @@ fn write_as<K: TableWriter<T, Writer = Vec<u8>>, T: Ranked + AsEntry + Drop, I: 
 ) -> Result<Option<(RunHandles, Vec<u8>)>>
     requires { K.writable form }
     ensures { (items : List Entry) → entries_in T.entry (I.left source).list ≡ Some items
-        → IfOk result (IsWrittenAs (K.kind form) items) }
+        → IfOk result (λ w. IsWrittenAs (K.kind form) items
+        (option_map (λ r. (r.0, r.1.items)) w)) }
 {
     let sizes = Sizes {
         block: 4096,
