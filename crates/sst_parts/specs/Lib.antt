@@ -16,3 +16,4 @@ pub mod PartFinds
 pub mod RefScans
 pub mod StoredParts
 pub mod StoredLaws
+pub mod PartMerges
