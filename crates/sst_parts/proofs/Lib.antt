@@ -3,4 +3,4 @@ mod Reading
 mod Scanning
 mod Cached
 mod Checks
-mod Merging
+mod Merged

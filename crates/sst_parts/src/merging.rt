@@ -1,8 +1,7 @@
 //! Merging a newer source into a parted table, whose parts are copied where nothing else overlaps
 //! them.
-ghost use Rattle.std.specs.Prelude.{◌≡◌, ◌++◌, ◌∷◌, [], ◌<◌, IfOk, IfSome, IsOkUnless, List, None};
+ghost use Rattle.std.specs.Prelude.{◌≡◌, ◌∷◌, [], IfOk, IfSome, IsOkUnless, List};
 ghost use Rattle.std.specs.Prelude.{Some, length, slice_get};
-ghost use Rattle.sst_merge.specs.Sources.{TakesFirst};
 ghost use Rattle.sst_parts.specs.PartMerges.{IsPartBytes, IsSameCopier, Merges, decoded};
 ghost use Rattle.sst_parts.specs.PartMerges.{TakesLesser, WritesAll, goes_before, starts_behind};
 ghost use Rattle.sst_parts.specs.Parts.{IsParted, IsStoredPart};
@@ -19,18 +18,19 @@ use crate::table::PartedTable;
 use sst_merge::{Head, Source};
 use sstable_blocks::run::{FrameSource, MemorySource, Scan};
 use sstable_blocks::{
-    AsEntry, BlockHash, EntryView, Error, IndexBlock, InternalValue, KeyedBlockHandle, Output,
+    AsEntry, BlockHash, Error, IndexBlock, InternalValue, KeyedBlockHandle, Output,
     Result, Slice,
 };
 use std::alloc::Global;
 use std::ops::Bound;
 
 // Whether an entry sorts strictly behind the end of a part.
-fn is_behind(end: &KeyedBlockHandle, entry: &EntryView<'_>) -> bool
+fn is_behind(end: &KeyedBlockHandle, entry: &InternalValue) -> bool
     ensures { result ≡ starts_behind end.now (entry.now ∷ []) }
 {
-    let by_key = entry.compare_key(end.end_key().as_slice());
-    by_key.then(end.seqno().cmp(&entry.seqno())).is_gt()
+    let key = entry.key();
+    let by_key = end.end_key().as_slice().cmp(key.user_key().as_slice());
+    by_key.then(key.seqno().cmp(&end.seqno())).is_lt()
 }
 
 // Whether what is left of a source begins strictly behind the end of a part, or nothing is left.
@@ -42,7 +42,7 @@ fn begins_behind<I: Source<InternalValue>>(
 {
     match newer.peek() {
         None => true,
-        Some(first) => is_behind(end, &first.view()),
+        Some(first) => is_behind(end, first),
     }
 }
 
@@ -55,7 +55,7 @@ fn is_first<I: Source<InternalValue>, J: Source<InternalValue>>(
         → result ≡ goes_before xs ys }
 {
     match (newer.peek(), part.peek()) {
-        (Some(x), Some(y)) => y.view().compare(&x.view()).is_ge(),
+        (Some(x), Some(y)) => !y.view().compare(&x.view()).is_lt(),
         (Some(_), None) => false,
         (None, _) => false,
     }
@@ -71,9 +71,6 @@ fn take_lesser<I: Source<InternalValue>, J: Source<InternalValue>>(
     ensures taken { IfOk result
         (TakesLesser newer.old newer.new part.old part.new) }
 {
-    if part.peek().is_none() {
-        return Ok(None);
-    }
     if is_first(newer, part) {
         newer.take(alloc)
     } else {
@@ -95,7 +92,7 @@ fn write_before<H: BlockHash, W: Output + Drop, I: Source<InternalValue>, J: Sou
     ensures reliable { IfOk result (λ f. W.never_fails filler.writer → W.never_fails f.writer) }
 {
     let mut filler = filler;
-    'take: while is_first(newer, part) {
+    'next: while is_first(newer, part) {
         let Some(entry) = newer.take(alloc)? else {
             return Ok(filler);
         };
@@ -117,7 +114,7 @@ fn write_merge<H: BlockHash, W: Output + Drop, I: Source<InternalValue>, J: Sour
     ensures reliable { IfOk result (λ f. W.never_fails filler.writer → W.never_fails f.writer) }
 {
     let mut filler = filler;
-    'take: loop {
+    'next: loop {
         let Some(entry) = take_lesser(alloc, newer, part)? else {
             return Ok(filler);
         };
@@ -137,7 +134,7 @@ fn write_left<H: BlockHash, W: Output + Drop, I: Source<InternalValue>>(
     ensures reliable { IfOk result (λ f. W.never_fails filler.writer → W.never_fails f.writer) }
 {
     let mut filler = filler;
-    'take: loop {
+    'next: loop {
         let Some(entry) = newer.take(alloc)? else {
             return Ok(filler);
         };

@@ -6,7 +6,7 @@ use Rattle.sstable_blocks.specs.RunReading.{hashes}
 use Rattle.sstable_blocks.specs.Sources.{KeepsSource}
 use Rattle.sst_parts.specs.PartMerges.{IsSameCopier, Merges}
 use Rattle.sst_parts.specs.Parts.{IsParted}
-use Rattle.sst_parts.proofs.Merging.Steps.{from_part}
+use Rattle.sst_parts.proofs.Merged.Steps.{from_part}
 use Rattle.sst_parts.proofs.merging.merge_each.Given as goal
 
 abbrev pub invariant-parts : goal.invariant-parts

@@ -11,7 +11,7 @@ use Rattle.sst_parts.specs.PartMerges.{AddsEntries, Holds, IsPartBytes, IsSameCo
 use Rattle.sst_parts.specs.PartWriting.{is_full}
 use Rattle.sst_parts.specs.declared.closed.PartOrigin.{PartOrigin}
 use Rattle.sst_parts.specs.declared.closed.PartOrigin.TheVariants.{Made, Copied}
-use Rattle.sst_parts.proofs.Merging.Lists.{decoded-append, merges_more, merges_on}
+use Rattle.sst_parts.proofs.Merged.Lists.{decoded-append, merges_more, merges_on}
 use Rattle.sst_parts.proofs.Reading.CopiedTables.{zip-append}
 use Rattle.sst_parts.proofs.Writing.Joins.{joined-append}
 
