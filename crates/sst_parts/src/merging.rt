@@ -151,8 +151,34 @@ fn open_head<'k, H: BlockHash>(
         → IsPartBytes (hashes H.hash64 H.hash128) bytes.now part end
         → head.list ≡ Some (decoded (joined part))) }
 {
-    let scan = scan_of::<H>(alloc, bytes.clone()?, Bound::Unbounded, Bound::Unbounded)?;
+    let copy = bytes.clone()?;
+    let scan = scan_of::<H>(alloc, copy, Bound::Unbounded, Bound::Unbounded)?;
     Head::new(alloc, scan)
+}
+
+// Merges a part that was opened in memory, of which these are the bytes.
+fn merge_head<H: BlockHash, W: Output + Drop, I: Source<InternalValue>, J: Source<InternalValue>>(
+    alloc: Global,
+    bytes: &[u8],
+    end: &KeyedBlockHandle,
+    newer: &mut Head<InternalValue, I>,
+    part: &mut Head<InternalValue, J>,
+    filler: BlockFiller<H, W>,
+) -> Result<BlockFiller<H, W>>
+    ensures merged { IfOk result (λ f. (blocks : List (List Entry))
+        → IsPartBytes (hashes H.hash64 H.hash128) bytes.now blocks end.now
+        → part.old.list ≡ Some (decoded (joined blocks))
+        → Merges (hashes H.hash64 H.hash128) filler f newer.old.list newer.new.list
+        (joined blocks) []) }
+    ensures same { IfOk result (IsSameCopier filler) }
+    ensures reliable { IfOk result (λ f. W.never_fails filler.writer → W.never_fails f.writer) }
+{
+    let filler = write_before(alloc, newer, part, filler)?;
+    if begins_behind(newer, end) {
+        filler.copy(bytes, end)
+    } else {
+        write_merge(alloc, newer, part, filler)
+    }
 }
 
 // Merges a part that newer entries may overlap.
@@ -170,12 +196,9 @@ fn merge_opened<H: BlockHash, W: Output + Drop, I: Source<InternalValue>>(
     ensures same { IfOk result (IsSameCopier filler) }
     ensures reliable { IfOk result (λ f. W.never_fails filler.writer → W.never_fails f.writer) }
 {
-    let mut part = open_head::<H>(alloc, bytes)?;
-    let filler = write_before(alloc, newer, &part, filler)?;
-    if begins_behind(newer, end) {
-        filler.copy(bytes.as_slice(), end)
-    } else {
-        write_merge(alloc, newer, &mut part, filler)
+    match open_head::<H>(alloc, bytes) {
+        Ok(mut part) => merge_head(alloc, bytes.as_slice(), end, newer, &mut part, filler),
+        Err(error) => Err(error),
     }
 }
 
@@ -194,10 +217,12 @@ fn merge_bytes<H: BlockHash, W: Output + Drop, I: Source<InternalValue>>(
     ensures same { IfOk result (IsSameCopier filler) }
     ensures reliable { IfOk result (λ f. W.never_fails filler.writer → W.never_fails f.writer) }
 {
-    if !begins_behind(newer, end) {
-        return merge_opened(alloc, bytes, end, newer, filler);
+    let is_copied = begins_behind(newer, end);
+    if is_copied {
+        filler.copy(bytes.as_slice(), end)
+    } else {
+        merge_opened(alloc, bytes, end, newer, filler)
     }
-    filler.copy(bytes.as_slice(), end)
 }
 
 // Reads the part at an index, and merges it.
@@ -223,8 +248,10 @@ fn merge_part<H: BlockHash, S: FrameSource, W: Output + Drop, I: Source<Internal
     ensures reliable { IfOk result (λ f. W.never_fails filler.writer → W.never_fails f.writer) }
 {
     stored_part_is_read();
-    let bytes = base.part_at(alloc, index)?;
-    merge_bytes(alloc, &bytes, end, newer, filler)
+    match base.part_at(alloc, index) {
+        Ok(bytes) => merge_bytes(alloc, &bytes, end, newer, filler),
+        Err(error) => Err(error),
+    }
 }
 
 // The handles of an index.
@@ -272,6 +299,34 @@ fn merge_each<H: BlockHash, S: FrameSource, W: Output + Drop, I: Source<Internal
     Ok(filler)
 }
 
+// Merges the parts of these handles into a copier.
+fn merge_all<H: BlockHash, S: FrameSource, W: Output + Drop, I: Source<InternalValue>>(
+    alloc: Global,
+    base: &mut PartedTable<H, S>,
+    handles: &[KeyedBlockHandle],
+    newer: &mut Head<InternalValue, I>,
+    copier: PartCopier<H, W>,
+    block_size: usize,
+) -> Result<PartCopier<H, W>>
+    requires handles { handles.now ≡ base.old.tops }
+    ensures kept { base.new ≡ record base.old { source = base.new.source } }
+    ensures source { KeepsSource S.bytes S.failures S.is_reliable base.old.source
+        base.new.source }
+    ensures asks { AsksUpTo (length handles.now) result (S.reads base.old.source)
+        (S.reads base.new.source) }
+    ensures merged { IfOk result (λ w. IfSome (S.bytes base.old.source) (λ all.
+        (parts : List (List (List Entry)))
+        → IsParted (hashes H.hash64 H.hash128) parts all base.old.top
+        → Merges (hashes H.hash64 H.hash128) copier w newer.old.list newer.new.list
+        (joined (joined parts)) [])) }
+    ensures same { IfOk result (IsSameCopier copier) }
+    ensures reliable { IfOk result (λ w. W.never_fails copier.writer → W.never_fails w.writer) }
+{
+    let filler = BlockFiller::new(alloc, copier, block_size);
+    let filler = merge_each(alloc, base, handles, newer, filler)?;
+    filler.finish()
+}
+
 /// Writes the merge of a parted table with a newer source into a copier: the parts of the table in
 /// order, each with the entries of the source that do not sort behind its end. Of equal versions,
 /// those of the same key and sequence number, the source's come first. No version is left out: a
@@ -313,10 +368,10 @@ pub fn merge_parts<H: BlockHash, S: FrameSource, W: Output + Drop, I: Source<Int
     ensures same { IfOk result (IsSameCopier copier) }
     ensures reliable { IfOk result (λ w. W.never_fails copier.writer → W.never_fails w.writer) }
 {
-    let handles = handles_of(alloc, base.index())?;
-    let filler = BlockFiller::new(alloc, copier, block_size);
-    let filler = merge_each(alloc, base, &handles, newer, filler)?;
-    filler.finish()
+    match handles_of(alloc, base.index()) {
+        Ok(handles) => merge_all(alloc, base, &handles, newer, copier, block_size),
+        Err(error) => Err(error),
+    }
 }
 
 /// Writes what is left of a source into a copier, in blocks of a size, as [`merge_parts`] does.
@@ -337,5 +392,6 @@ pub fn write_rest<H: BlockHash, W: Output + Drop, I: Source<InternalValue>>(
     ensures reliable { IfOk result (λ w. W.never_fails copier.writer → W.never_fails w.writer) }
 {
     let filler = BlockFiller::new(alloc, copier, block_size);
-    write_left(alloc, newer, filler)?.finish()
+    let filler = write_left(alloc, newer, filler)?;
+    filler.finish()
 }

@@ -13,7 +13,7 @@ use Rattle.sstable_blocks.specs.RunPlaces.{part_in}
 use Rattle.sstable_blocks.specs.Scans.{AtHandle, Read}
 use Rattle.sstable_blocks.specs.ValueTypes.{ValueType, Value, Tombstone, WeakTombstone, Indirection}
 use Rattle.std.proofs.lemmas.Bool.{le-leb}
-use Rattle.sst_merge.specs.Stored.{all_keys, known_reads}
+use Rattle.sst_merge.specs.Stored.{all_keys, known_reads, scan_list}
 use Rattle.sst_merge.specs.StoredLaws.{known_all}
 use Rattle.sst_parts.specs.Parts.{IsParted, IsStoredPart, tops_at}
 use Rattle.sst_parts.specs.PartScans.{file_reads}
@@ -373,5 +373,8 @@ each_around c a b d e n n' None top p q m = tt
 each_around c a b d e n n' (Some all) top p q m = λ parts is. merges_begun c a b e n n' (joined (joined parts)) [] p (merges_ended c b d e n n' (joined (joined parts)) [] (m parts is) q)
 
 -- the list of a scan of a part
-pub part_list : (c : Hashes) (file : List ℕ) (part : List (List Entry)) (h : Handle) (reads : List Read) → IsPartBytes c file part h → reads ≡ file_reads c file all_keys → known_reads reads ≡ Some (decoded (joined part))
+part_list : (c : Hashes) (file : List ℕ) (part : List (List Entry)) (h : Handle) (reads : List Read) → IsPartBytes c file part h → reads ≡ file_reads c file all_keys → known_reads reads ≡ Some (decoded (joined part))
 part_list c file part h reads is same = ap known_reads (same ∙ is.read) ∙ known_all (decoded (joined part))
+
+pub scan_part_list : (c : Hashes) (file : List ℕ) (part : List (List Entry)) (h : Handle) (ended : Option Error) (inner : List ℕ) (reads : List ℕ → List Read) → ended ≡ None → IsPartBytes c file part h → reads inner ≡ file_reads c file all_keys → scan_list ended (Some inner) reads ≡ Some (decoded (joined part))
+scan_part_list c file part h ended inner reads going is same = subst (λ o. scan_list o (Some inner) reads ≡ Some (decoded (joined part))) (sym going) (part_list c file part h (reads inner) is same)

@@ -1,4 +1,4 @@
-use Rattle.std.proofs.Common.{◌≡◌, ◌+◌, ◌≤◌, List, length}
+use Rattle.std.proofs.Common.{◌≡◌, ◌+◌, ◌-◌, ◌≤◌, List, length}
 use Rattle.std.specs.Option.{IfSome}
 use Rattle.sstable_blocks.specs.Blocks.{joined}
 use Rattle.sstable_blocks.specs.Prelude.{Entry}
@@ -20,3 +20,6 @@ invariant-parts g l = record {
   same : IsSameCopier l.fn.filler l.filler;
   reliable : g.W.Output.never_fails l.fn.filler.writer → g.W.Output.never_fails l.filler.writer;
 }
+
+abbrev pub decreases-parts : goal.decreases-parts
+decreases-parts g l = length l.handles - l.index
