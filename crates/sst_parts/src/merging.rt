@@ -18,8 +18,7 @@ use crate::table::PartedTable;
 use sst_merge::{Head, Source};
 use sstable_blocks::run::{FrameSource, MemorySource, Scan};
 use sstable_blocks::{
-    AsEntry, BlockHash, Error, IndexBlock, InternalValue, KeyedBlockHandle, Output,
-    Result, Slice,
+    AsEntry, BlockHash, Error, IndexBlock, InternalValue, KeyedBlockHandle, Output, Result, Slice,
 };
 use std::alloc::Global;
 use std::ops::Bound;

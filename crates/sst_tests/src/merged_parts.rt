@@ -192,7 +192,10 @@ fn parts_that_nothing_overlaps_are_copied(rt: HostRuntime) {
         for size in &[0usize, 40, 1000] {
             let found = seen(rt.alloc(), *len, *keys, *size);
             let entries = 54u64.saturating_add(keys.len() as u64);
-            assert!(rt; found == Ok((*parts, entries, 0)), "{keys:?} {size} {found:?}");
+            assert!(rt;
+                found == Ok((*parts, entries, 0)),
+                "{keys:?} {size} {found:?}"
+            );
         }
     }
 }
@@ -201,7 +204,13 @@ fn parts_that_nothing_overlaps_are_copied(rt: HostRuntime) {
 fn level(alloc: Global) -> sst_base::Result<(usize, u64)> {
     let mut table = base(alloc, 9)?;
     let mut source = source(alloc, &[(3, 4), (12, 4), (13, 4)])?;
-    let copier = merge_parts(alloc, &mut table, &mut source, begin(alloc, Vec::new(alloc)), 40)?;
+    let copier = merge_parts(
+        alloc,
+        &mut table,
+        &mut source,
+        begin(alloc, Vec::new(alloc)),
+        40,
+    )?;
     let left = source.peek().map_or(0, |entry| entry.key().seqno());
     let copier = write_rest(alloc, &mut source, copier, 40)?;
     let none = source.peek().is_none();
@@ -232,14 +241,19 @@ fn source_out_of_order_is_refused(rt: HostRuntime) {
 // Whether a merge into a device ends as that does.
 fn fails_at(alloc: Global, call: usize) -> bool {
     let to = SlowWriter::failing(Vec::new(alloc), call, Failure::Error);
-    matches!(merged_into(alloc, to, 9, &[(3, 4), (12, 4)], 40), Err(Error::Io))
+    matches!(
+        merged_into(alloc, to, 9, &[(3, 4), (12, 4)], 40),
+        Err(Error::Io)
+    )
 }
 
 #[test]
 fn device_that_fails_ends_a_merge(rt: HostRuntime) {
     let alloc = rt.alloc();
-    let len = merged_into(alloc, Vec::new(alloc), 9, &[(3, 4), (12, 4)], 40)
-        .map_or(0, |bytes| bytes.len());
+    let len = merged_into(alloc, Vec::new(alloc), 9, &[(3, 4), (12, 4)], 40).map_or(
+        0,
+        |bytes| bytes.len(),
+    );
     for part in 0..24usize {
         let call = len / 24 * part;
         assert!(rt; fails_at(alloc, call), "{call}");

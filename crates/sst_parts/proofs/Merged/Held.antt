@@ -62,9 +62,9 @@ module _ {W : Type 0} (c : Hashes) where
         held.0,
         held.1,
         held_push held.0 w.current (block ++ x ∷ [])
-        ∙ ap (λ xs. front ++ xs) (decoded-append block (x ∷ []))
-        ∙ sym (append_assoc front (decoded block) (plain x ∷ []))
-        ∙ ap (λ xs. xs ++ plain x ∷ []) (sym (held_push held.0 w.current block) ∙ held.2),
+            ∙ ap (λ xs. front ++ xs) (decoded-append block (x ∷ []))
+            ∙ sym (append_assoc front (decoded block) (plain x ∷ []))
+            ∙ ap (λ xs. xs ++ plain x ∷ []) (sym (held_push held.0 w.current block) ∙ held.2),
       )
 
   -- it is written
@@ -82,7 +82,7 @@ module _ {W : Type 0} (c : Hashes) where
         k.all,
         subst (AllZip (IsPartFrom c) k.all) (sym is) k.zip,
         ap (λ bs. decoded (joined (joined k.all ++ bs))) at ∙ held_push k.all [] block
-        ∙ ap (λ bs. decoded (joined bs) ++ decoded block) (append-nil (joined k.all) ∙ k.whole),
+            ∙ ap (λ bs. decoded (joined bs) ++ decoded block) (append-nil (joined k.all) ∙ k.whole),
       )
   block_at false closed current new block parts z is at = (
     parts,
@@ -104,9 +104,9 @@ module _ {W : Type 0} (c : Hashes) where
         all,
         subst (AllZip (IsPartFrom c) all) (sym w.closed) zip,
         ap (λ bs. decoded (joined bs)) whole
-        ∙ ap decoded (joined-append (joined held.0 ++ old.current) blocks)
-        ∙ decoded-append (joined (joined held.0 ++ old.current)) (joined blocks)
-        ∙ ap (λ xs. xs ++ decoded (joined blocks)) held.2,
+            ∙ ap decoded (joined-append (joined held.0 ++ old.current) blocks)
+            ∙ decoded-append (joined (joined held.0 ++ old.current)) (joined blocks)
+            ∙ ap (λ xs. xs ++ decoded (joined blocks)) held.2,
       )
 
   -- nothing is taken yet

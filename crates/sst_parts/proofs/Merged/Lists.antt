@@ -52,11 +52,13 @@ up_to_last (y ∷ z ∷ zs) last h =
 
 before_all : (last x : Entry) (ys : List Entry) → entry_cmp last x ≡ Less → AllByRecursion (λ (y : Entry). entry_cmp last y ≢ Less) ys → AllByRecursion (λ (y : Entry). is_lt (entry_cmp y x) ≡ true) ys
 before_all last x [] less h = tt
-before_all last x (y ∷ ys) less h =
-    (elim (cases_Bool (is_lt (entry_cmp y x))) [
-      | inl lt ↦ lt
-      | inr more ↦ absurd (ge_trans entry_cmp entry_order last y x h.0 (not_lt (entry_cmp y x) more) less)
-    ], before_all last x ys less h.1)
+before_all last x (y ∷ ys) less h = (
+  elim (cases_Bool (is_lt (entry_cmp y x))) [
+    | inl lt ↦ lt
+    | inr more ↦ absurd (ge_trans entry_cmp entry_order last y x h.0 (not_lt (entry_cmp y x) more) less)
+  ],
+  before_all last x ys less h.1,
+)
 
 -- decoding changes no key and no number
 decoded_before : (x : Entry) (ys : List Entry) → AllByRecursion (λ (y : Entry). is_lt (entry_cmp y x) ≡ true) ys → AllByRecursion (λ (y : Entry). is_lt (entry_cmp y (plain x)) ≡ true) (decoded ys)
@@ -72,7 +74,7 @@ part_first [] ys h ordered end behind = λ after. refl
 part_first (x ∷ xs) ys h ordered end behind =
     let less : entry_cmp end.last x ≡ Less = end_cmp h ys x end ∙ lt_is (entry_cmp (end_entry h) x) behind in
     let up : AllByRecursion (λ (y : Entry). entry_cmp end.last y ≢ Less) ys =
-        subst (AllByRecursion (λ (y : Entry). entry_cmp end.last y ≢ Less)) (sym end.whole) (up_to_last end.front end.last (subst (λ (zs : List Entry). IsInOrder entry_cmp zs) end.whole ordered)) in
+    subst (AllByRecursion (λ (y : Entry). entry_cmp end.last y ≢ Less)) (sym end.whole) (up_to_last end.front end.last (subst (λ (zs : List Entry). IsInOrder entry_cmp zs) end.whole ordered)) in
     all_first (plain x) (decoded xs) (decoded ys) (decoded_before x ys (before_all end.last x ys less up))
 
 pub decoded-append : (xs ys : List Entry) → decoded (xs ++ ys) ≡ decoded xs ++ decoded ys

@@ -55,16 +55,26 @@ second_by y (x ∷ xs) ys h = second_taken (plain x) (plain y) (decoded xs) (dec
 -- of a first list that goes before the first entry is taken
 pub first_step : (x : Entry) (xs ys : List Entry) (t p : Option (List Entry)) → p ≡ Some ys → goes_before xs ys ≡ true → Some xs ≡ option_map (λ zs. x ∷ zs) t → LesserTaken (Some x) xs ys t p
 first_step x xs ys t p known before taken =
-    let k = rest_of x xs t taken in
-    (k.rest, ys, k.is, known, subst (λ (zs : List Entry). MergesTo (decoded zs) (decoded ys) (plain x ∷ []) (decoded k.rest) (decoded ys)) k.whole
-        (first_by x k.rest ys (subst (λ (zs : List Entry). goes_before zs ys ≡ true) (sym k.whole) before)))
+    let k = rest_of x xs t taken in (
+      k.rest,
+      ys,
+      k.is,
+      known,
+      subst (λ (zs : List Entry). MergesTo (decoded zs) (decoded ys) (plain x ∷ []) (decoded k.rest) (decoded ys)) k.whole
+          (first_by x k.rest ys (subst (λ (zs : List Entry). goes_before zs ys ≡ true) (sym k.whole) before)),
+    )
 
 -- of one that does not, that of the second
 pub second_step : (y : Entry) (xs ys : List Entry) (n t : Option (List Entry)) → n ≡ Some xs → goes_before xs ys ≡ false → Some ys ≡ option_map (λ zs. y ∷ zs) t → LesserTaken (Some y) xs ys n t
 second_step y xs ys n t known before taken =
-    let k = rest_of y ys t taken in
-    (xs, k.rest, known, k.is, subst (λ (zs : List Entry). MergesTo (decoded xs) (decoded zs) (plain y ∷ []) (decoded xs) (decoded k.rest)) k.whole
-        (second_by y xs k.rest (subst (λ (zs : List Entry). goes_before xs zs ≡ false) (sym k.whole) before)))
+    let k = rest_of y ys t taken in (
+      xs,
+      k.rest,
+      known,
+      k.is,
+      subst (λ (zs : List Entry). MergesTo (decoded xs) (decoded zs) (plain y ∷ []) (decoded xs) (decoded k.rest)) k.whole
+          (second_by y xs k.rest (subst (λ (zs : List Entry). goes_before xs zs ≡ false) (sym k.whole) before)),
+    )
 
 none_before : (xs ys : List Entry) → xs ≡ [] → goes_before xs ys ≡ true → ⊥
 none_before [] ys e h = absurd (cc)
