@@ -1,5 +1,5 @@
 //! Entries that are written into a parted table one by one, in blocks of a size.
-ghost use Rattle.std.specs.Prelude.{◌≡◌, ◌∷◌, [], IfOk, IsErrOf};
+ghost use Rattle.std.specs.Prelude.{◌≡◌, ◌∷◌, [], IfOk};
 ghost use Rattle.std.specs.Prelude.{List};
 ghost use Rattle.sst_parts.specs.PartMerges.{AddsEntries, IsPartBytes, IsSameCopier, decoded};
 ghost use Rattle.sstable_blocks.specs.Blocks.{joined};

@@ -1,13 +1,12 @@
 -- What a copier holds after blocks and parts are added to it.
-use Rattle.std.proofs.Common.{◌≡◌, ◌∷◌, [], ◌++◌, Bool, true, false, cond, List, Option, Some, None, refl, sym, ap, subst, ◌∙◌, append_assoc, append-nil, inl, inr}
-use Rattle.std.proofs.lemmas.Bool.{cases_Bool}
+use Rattle.std.proofs.Common.{◌≡◌, ◌∷◌, [], ◌++◌, Bool, true, false, cond, List, Option, refl, sym, ap, subst, ◌∙◌, append_assoc, append-nil}
 use Rattle.std.specs.List.{AllZip}
 use Rattle.sstable_blocks.specs.Blocks.{joined}
 use Rattle.sstable_blocks.specs.Prelude.{Entry, Handle, plain}
 use Rattle.sstable_blocks.specs.RunLaws.{joined_push}
 use Rattle.sstable_blocks.specs.RunReading.{Hashes}
 use Rattle.sst_parts.specs.PartCopies.{IsPartFrom, PartsSoFar, WritesBlock, WritesPart, with_current}
-use Rattle.sst_parts.specs.PartMerges.{AddsEntries, Holds, IsPartBytes, IsSameCopier, MergedTo, Merges, MergesTo, decoded, with_block}
+use Rattle.sst_parts.specs.PartMerges.{AddsEntries, Holds, IsPartBytes, IsSameCopier, Merges, MergesTo, decoded, with_block}
 use Rattle.sst_parts.specs.PartWriting.{is_full}
 use Rattle.sst_parts.specs.declared.closed.PartOrigin.{PartOrigin}
 use Rattle.sst_parts.specs.declared.closed.PartOrigin.TheVariants.{Made, Copied}

@@ -1,10 +1,6 @@
-use Rattle.std.proofs.Common.{◌≡◌, ◌∷◌, ◌++◌, [], List, IfOk, map, map-id, ap, sym, subst, ◌∙◌}
-use Rattle.std.proofs.lemmas.Result.{IfOk-weaker, err_from_is_err_and}
-use Rattle.sstable_blocks.specs.Prelude.{Entry, plain}
+use Rattle.std.proofs.lemmas.Result.{IfOk-weaker}
 use Rattle.sstable_blocks.specs.RunReading.{hashes}
-use Rattle.sst_parts.specs.PartCopies.{PartsSoFar, WritesBlock}
-use Rattle.sst_parts.specs.PartMerges.{AddsEntries, decoded, with_block}
-use Rattle.sst_parts.proofs.Merged.Held.{adds_none, adds_on, block_added, block_begun, block_grown, block_written, part_added}
+use Rattle.sst_parts.proofs.Merged.Held.{part_added}
 use Rattle.sst_parts.proofs.block_filler.copy_part.Goals as goal
 
 pub returns-clause-added : goal.returns-clause-added

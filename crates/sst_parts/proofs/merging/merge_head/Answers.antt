@@ -1,9 +1,9 @@
-use Rattle.std.proofs.Common.{◌≡◌, [], ℕ, List, Some, subst, sym, ◌∙◌}
+use Rattle.std.proofs.Common.{◌≡◌, [], List, Some, sym, ◌∙◌}
 use Rattle.std.proofs.lemmas.Result.{IfOk-weaker}
 use Rattle.sstable_blocks.specs.Blocks.{joined}
 use Rattle.sstable_blocks.specs.Prelude.{Entry}
 use Rattle.sstable_blocks.specs.RunReading.{hashes}
-use Rattle.sst_parts.specs.PartMerges.{IsPartBytes, decoded}
+use Rattle.sst_parts.specs.PartMerges.{decoded}
 use Rattle.sst_parts.proofs.Merged.Held.{merges_both}
 use Rattle.sst_parts.proofs.Merged.Steps.{merges_copied_of, merges_plain}
 use Rattle.sst_parts.proofs.merging.merge_head.Goals as goal

@@ -1,7 +1,6 @@
 use Rattle.std.proofs.Common.{◌≡◌, List, ℕ, rules, sym, subst, ◌∙◌}
 use Rattle.std.proofs.lemmas.Result.{IfOk-weaker}
 use Rattle.sstable_blocks.specs.RunReading.{hashes}
-use Rattle.sst_merge.specs.Stored.{all_keys}
 use Rattle.sst_parts.specs.PartMerges.{IsPartBytes}
 use Rattle.sst_parts.proofs.Merged.Steps.{scan_part_list}
 use Rattle.sst_parts.proofs.merging.open_head.Goals as goal

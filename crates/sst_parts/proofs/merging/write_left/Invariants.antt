@@ -1,4 +1,3 @@
-use Rattle.std.proofs.Common.{◌≡◌}
 use Rattle.sstable_blocks.specs.RunReading.{hashes}
 use Rattle.sst_parts.specs.PartMerges.{IsSameCopier}
 use Rattle.sst_parts.proofs.Merged.Steps.{WrittenSoFar}
