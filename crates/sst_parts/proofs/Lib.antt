@@ -3,3 +3,4 @@ mod Reading
 mod Scanning
 mod Cached
 mod Checks
+mod Merged

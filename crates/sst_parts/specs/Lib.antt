@@ -17,3 +17,4 @@ pub mod RefScans
 pub mod StoredParts
 pub mod StoredLaws
 pub mod KnownLaws
+pub mod PartMerges

@@ -12,6 +12,7 @@ ghost use Rattle.sst_parts.specs.PartReaders.{read_open_by_top};
 ghost use Rattle.sst_parts.specs.PartCopies.{CopiedTable, IsCopiedTable, IsCopiesLayout};
 ghost use Rattle.sst_parts.specs.PartCopies.{IsPartFrom, IsPartOfTable, copied_parts};
 ghost use Rattle.sst_parts.specs.PartCopies.{parts_of_tables, sources_of};
+ghost use Rattle.sst_parts.specs.PartMerges.{IsPartBytes};
 ghost use Rattle.sst_parts.specs.Parts.{IsParted, IsStoredPart, read_by_top, tops_at};
 ghost use Rattle.sst_parts.specs.Parts.{tops_by_footer};
 ghost use Rattle.sst_parts.specs.PartScans.{parts_read};
@@ -96,6 +97,29 @@ pub fn parted_parts_are_scanned()
         → ((xs : List ℕ) → c.hash128 xs < 2 ^ 128) → IsParted c parts bytes top
         → tops_at c bytes top ≡ Ok tops → slice_get tops i ≡ Some h
         → IsScannedPart c bytes r h }
+{
+    index_check_is_by_stages();
+    index_block_is_read();
+    sound_run_is_read();
+    sound_is_scanned();
+}
+
+/// The parts of a parted table are stored where its handles name them.
+pub fn parted_parts_are_stored()
+    ensures { (c : Hashes) (parts : List (List (List Entry))) (bytes : List ℕ) (top : HandleParts)
+        (tops : List Handle)
+        → ((xs : List ℕ) → c.hash128 xs < 2 ^ 128) → IsParted c parts bytes top
+        → tops_at c bytes top ≡ Ok tops → AllZip (IsStoredPart c bytes) parts tops }
+{
+    index_check_is_by_stages();
+    index_block_is_read();
+}
+
+/// The bytes of a stored part are a table file of its own, which is read as its entries.
+pub fn stored_part_is_read()
+    ensures { (c : Hashes) (bytes : List ℕ) (part : List (List Entry)) (h : Handle)
+        → ((xs : List ℕ) → c.hash128 xs < 2 ^ 128) → IsStoredPart c bytes part h
+        → IsPartBytes c (part_in bytes (range_of h)) part h }
 {
     index_check_is_by_stages();
     index_block_is_read();

@@ -105,7 +105,7 @@ impl<'k, H: BlockHash> Model for ScanEnd<'k, H> {
 }
 
 // Opens a table file in memory, and starts a scan of it.
-fn scan_of<'k, H: BlockHash>(
+pub(crate) fn scan_of<'k, H: BlockHash>(
     alloc: Global,
     bytes: Slice,
     from: Bound<&'k [u8]>,

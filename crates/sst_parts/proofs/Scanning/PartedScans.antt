@@ -8,7 +8,11 @@ use Rattle.sstable_blocks.specs.BlockTypes as types
 use Rattle.sst_parts.specs.Parts.{IsParted, IsStoredPart, tops_at}
 use Rattle.sstable_blocks.specs.RunPlaces.{part_in}
 use Rattle.sst_parts.specs.PartScans.{bytes_reads, kept_reads, part_reads, parts_read}
+use Rattle.sst_parts.specs.PartMerges.{IsPartBytes}
 use Rattle.sst_parts.specs.RefScans.{IsScannedPart}
+use Rattle.sst_merge.specs.Stored.{all_keys}
+use Rattle.sst_merge.specs.TableReads.{within_all}
+use Rattle.sst_parts.proofs.Writing.Files.{part_cut}
 use Rattle.sst_parts.proofs.Writing.Joins.{joined-map, zip-map}
 use Rattle.sst_parts.proofs.Reading.PartReads.{tops_read}
 use Rattle.sstable_blocks.specs.Blocks.{joined}
@@ -55,6 +59,15 @@ module _ (c : Hashes) (sums : (xs : List ℕ) → c.hash128 xs < 2 ^ 128)
     file_is file r blocks h footer d =
         let k = kept_is file blocks h footer d in
         ap (kept_reads c file r) k.1 ∙ run_scanned blocks file h r (index_in file h.index) d (run_read blocks file h d).index
+
+    -- the bytes of a stored part are read as its entries
+    pub part_bytes : (bytes : List ℕ) (part : List (List Entry)) (h : Handle) → IsStoredPart c bytes part h → IsPartBytes c (part_in bytes (range_of h)) part h
+    part_bytes bytes part h s = record {
+      stored = part_cut c bytes part h s;
+      read = file_is (part_in bytes (range_of h)) all_keys part s.places s.footer s.sound ∙ ap (map Ok) (within_all (map plain (joined part)));
+      ordered = s.sound.ordered;
+      end = s.end;
+    }
 
     module _ (bytes : List ℕ) (r : KeyRange) where
       -- the part of a handle has these entries, of which those in the range are read

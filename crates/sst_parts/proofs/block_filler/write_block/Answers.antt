@@ -1,0 +1,13 @@
+use Rattle.std.proofs.Common.{List, map-id, subst}
+use Rattle.std.proofs.lemmas.Result.{IfOk-weaker}
+use Rattle.sstable_blocks.specs.Prelude.{Entry}
+use Rattle.sstable_blocks.specs.RunReading.{hashes}
+use Rattle.sst_parts.specs.PartCopies.{WritesBlock}
+use Rattle.sst_parts.proofs.Merged.Held.{block_added}
+use Rattle.sst_parts.proofs.block_filler.write_block.Goals as goal
+
+pub returns-clause-added : goal.returns-clause-added
+returns-clause-added g c =
+    let h = hashes g.H.BlockHash.hash64 g.H.BlockHash.hash128 in
+    let block = c.args.block.now in
+    IfOk-weaker c.add_block.result _ _ (λ w k. block_added h c.args.copier w block (subst (λ (xs : List Entry). WritesBlock c.args.copier w xs) (map-id block) k)) c.add_block.ensures.added

@@ -1,0 +1,68 @@
+use Rattle.std.proofs.Common.{◌≤◌, List, length, Some, refl, sym, ap, subst, ◌∙◌, arith}
+use Rattle.std.proofs.lemmas.Option.{slice_get-get_or}
+use Rattle.std.specs.List.{slice_get}
+use Rattle.sstable_blocks.specs.Prelude.{Handle}
+use Rattle.sstable_blocks.specs.RunReading.{hashes}
+use Rattle.sst_parts.specs.Parts.{PartedParts}
+use Rattle.sst_parts.proofs.Merged.Held.{same_on}
+use Rattle.sst_parts.proofs.Merged.Steps.{each_done, each_next, each_none, zips_by}
+use Rattle.sst_parts.proofs.merging.merge_each.Goals as goal
+
+pub parts-init : goal.parts-init
+parts-init g c =
+    let base = c.args.base.now in
+    record {
+      kept = refl;
+      source = record { same = refl; failures_grow = omega arith; kept = λ r. r };
+      asks = omega arith;
+      inside = omega arith;
+      merged = each_none (hashes g.H.BlockHash.hash64 g.H.BlockHash.hash128) c.args.filler c.args.newer.now.list (g.S.FrameSource.bytes base.source) base.top;
+      same = record { config = refl; sizes = refl; start = refl };
+      reliable = λ n. n;
+    }
+
+pub merge_part-requires : goal.merge_part-requires
+merge_part-requires g c =
+    let inv = c.parts.invariant in
+    let tops = ap (λ (t : PartedParts g.row.S.Denot). t.tops) inv.kept ∙ sym c.requires.handles in
+    let end = c.index-handles-index in
+    record {
+      inside = ap (λ (hs : List Handle). slice_get hs c.parts.index) tops ∙ slice_get-get_or c.args.handles.now c.parts.index end.result (omega (arith, c.parts-test.true)) ∙ ap (λ (x : Handle). Some x) (sym end.is);
+    }
+
+pub parts-preserved : goal.parts-preserved
+parts-preserved g c =
+    let h = hashes g.H.BlockHash.hash64 g.H.BlockHash.hash128 in
+    let inv = c.parts.invariant in
+    let e = c.in_ok-filler.ensures in
+    let base = c.args.base.now in
+    let now = c.merge_part.new.base in
+    let sums = g.met.H.BlockHash.hash128_fits in
+    let end = c.index-handles-index in
+    let bytes = g.S.FrameSource.bytes base.source in
+    let at = ap (λ (hs : List Handle). slice_get hs c.parts.index) (sym c.requires.handles) ∙ slice_get-get_or c.args.handles.now c.parts.index end.result (omega (arith, c.parts-test.true)) ∙ ap (λ (x : Handle). Some x) (sym end.is) in
+    let zips = zips_by h bytes base.top base.tops (λ parts all is kept. c.parted_parts_are_stored.ensures h parts all base.top base.tops sums is kept) c.note_kept.ensures in
+    record {
+      kept = e.kept ∙ ap (λ (t : PartedParts g.row.S.Denot). record t { source = now.source }) inv.kept;
+      source = record {
+        same = e.source.same ∙ inv.source.same;
+        failures_grow = omega (arith, inv.source.failures_grow, e.source.failures_grow);
+        kept = λ r. e.source.kept (inv.source.kept r);
+      };
+      asks = omega (arith, e.asks, inv.asks);
+      inside = omega (arith, c.parts-test.true);
+      merged = each_next h c.args.filler c.parts.filler c.in_ok-filler.filler c.args.newer.now.list c.parts.newer.list c.merge_part.new.newer.list bytes (g.S.FrameSource.bytes c.parts.base.source) base.top base.tops c.parts.index end.result inv.source.same at zips inv.merged e.merged;
+      same = same_on c.args.filler c.parts.filler c.in_ok-filler.filler inv.same e.same;
+      reliable = λ n. e.reliable (inv.reliable n);
+    }
+
+pub returns-clause-merged : goal.returns-clause-merged
+returns-clause-merged g c =
+    let h = hashes g.H.BlockHash.hash64 g.H.BlockHash.hash128 in
+    let inv = c.parts.invariant in
+    let base = c.args.base.now in
+    let sums = g.met.H.BlockHash.hash128_fits in
+    let bytes = g.S.FrameSource.bytes base.source in
+    let end = subst (λ (hs : List Handle). length hs ≤ c.parts.index) c.requires.handles c.parts-test.false in
+    let zips = zips_by h bytes base.top base.tops (λ parts all is kept. c.parted_parts_are_stored.ensures h parts all base.top base.tops sums is kept) c.note_kept.ensures in
+    each_done h c.args.filler c.parts.filler c.args.newer.now.list c.parts.newer.list bytes base.top base.tops c.parts.index end zips inv.merged

@@ -1,0 +1,14 @@
+use Rattle.sstable_blocks.specs.RunReading.{hashes}
+use Rattle.sst_parts.specs.PartMerges.{IsSameCopier}
+use Rattle.sst_parts.proofs.Merged.Steps.{WrittenSoFar}
+use Rattle.sst_parts.proofs.merging.write_left.Given as goal
+
+abbrev pub invariant-next : goal.invariant-next
+invariant-next g l = record {
+  written : WrittenSoFar (hashes g.H.BlockHash.hash64 g.H.BlockHash.hash128) l.fn.filler l.filler l.fn.newer.list l.newer.list;
+  same : IsSameCopier l.fn.filler l.filler;
+  reliable : g.W.Output.never_fails l.fn.filler.writer → g.W.Output.never_fails l.filler.writer;
+}
+
+abbrev pub decreases-next : goal.decreases-next
+decreases-next g l = l.newer.most
