@@ -166,12 +166,6 @@ same_place a b same =
     let size : a.1.1 ≡ b.1.1 = eqb-true a.1.1 b.1.1 l.1 in
     ap (λ (n : ℕ). (n, (a.1.0, a.1.1))) number ∙ ap (λ (n : ℕ). (b.0, (n, a.1.1))) offset ∙ ap (λ (n : ℕ). (b.0, (b.1.0, n))) size
 
--- the block that is kept of a place is that of the place
-pub kept_holds : {V : Type 0} (P : Kept V → Type 0) (es : List (Kept V)) (place : Place) (b : V) → kept_at es place ≡ Some b → AllByRecursion P es → P (place, b)
-kept_holds P es place b at all =
-    let e = an_entry (is_place place) es b at in
-    subst (λ (p : Place). P (p, b)) (sym (same_place place e.0 e.2)) (entry_holds (is_place place) P es (e.0, b) e.1 all)
-
 -- what a look-up finds is the most recently used then
 latest_moved : {V : Type 0} (es : List (Kept V)) (place : Place) (o : Option V) → kept_at es place ≡ o → is_some o ≡ true → IsLatest (promoted (is_place place) es) place
 latest_moved es place None at some = cc

@@ -5,13 +5,14 @@ use Rattle.std.specs.List.{AllZip, slice_get}
 use Rattle.std.specs.Option.{IfSome, option_map}
 use Rattle.std.specs.Result.{IfOk}
 use Rattle.std.specs.Ordering.{is_lt}
+use Rattle.sstable_blocks.specs.BlockLaws.{not_false, not_true}
 use Rattle.sstable_blocks.specs.Blocks.{joined}
 use Rattle.sstable_blocks.specs.Prelude.{Entry, Handle, HandleParts, plain, plain_value}
 use Rattle.sstable_blocks.specs.Results.{Error, BadHandle}
 use Rattle.sstable_blocks.specs.Opened.{range_of}
 use Rattle.sstable_blocks.specs.RunPlaces.{part_in}
 use Rattle.sstable_blocks.specs.Scans.{AtHandle, Read}
-use Rattle.sstable_blocks.specs.ValueTypes.{ValueType, Value, Tombstone, WeakTombstone, Indirection}
+use Rattle.sstable_blocks.specs.ValueTypes.{Value, Tombstone, WeakTombstone, Indirection}
 use Rattle.std.proofs.lemmas.Bool.{le-leb}
 use Rattle.sst_merge.specs.Stored.{all_keys, known_reads, scan_list}
 use Rattle.sst_merge.specs.StoredLaws.{known_all}
@@ -25,14 +26,6 @@ use Rattle.sst_parts.specs.PartMerges.{AddsEntries, IsPartBytes, LesserTaken, Me
 use Rattle.sst_parts.proofs.Merged.Lists.{decoded-append, first_taken, merges_on, only_taken, part_first, second_taken}
 use Rattle.sst_parts.proofs.Merged.Held.{adds_on, adds_same, merges_begun, merges_both, merges_ended, merges_none, merges_part}
 use Rattle.sst_parts.proofs.Writing.Joins.{joined-append}
-
-not_true : (b : Bool) → not b ≡ true → b ≡ false
-not_true true e = absurd (cc)
-not_true false e = refl
-
-not_false : (b : Bool) → not b ≡ false → b ≡ true
-not_false true e = refl
-not_false false e = absurd (cc)
 
 -- a known list, whose first entry was taken
 record IsRest (x : Entry) (xs : List Entry) (t : Option (List Entry)) : Type 0 where
@@ -278,17 +271,11 @@ newer_taken c b d x n t ys before taken added = λ xs is.
     }
 
 -- decoding twice is decoding once
-value_twice : (t : ValueType) (v : List ℕ) → plain_value t (plain_value t v) ≡ plain_value t v
-value_twice Value v = refl
-value_twice Tombstone v = refl
-value_twice WeakTombstone v = refl
-value_twice Indirection v = refl
-
 abbrev with_value : Entry → List ℕ → Entry
 with_value x v = record { key = x.key; value = v }
 
 plain_twice : (x : Entry) → plain (plain x) ≡ plain x
-plain_twice x = ap (with_value x) (value_twice x.key.value_type x.value)
+plain_twice x = ap (with_value x) (elim x.key.value_type as (λ t. plain_value t (plain_value t x.value) ≡ plain_value t x.value) [ Value ↦ refl | Tombstone ↦ refl | WeakTombstone ↦ refl | Indirection ↦ refl ])
 
 decoded_twice : (xs : List Entry) → decoded (decoded xs) ≡ decoded xs
 decoded_twice [] = refl
