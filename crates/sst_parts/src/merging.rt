@@ -288,7 +288,8 @@ fn merge_each<H: BlockHash, S: FrameSource, W: Output + Drop, I: Source<Internal
     ensures reliable { IfOk result (λ f. W.never_fails filler.writer → W.never_fails f.writer) }
 {
     parted_parts_are_stored();
-    base.note_kept();
+    // The index is that of the bytes.
+    let _index = base.index();
     let mut filler = filler;
     let mut index = 0usize;
     'parts: while index < handles.len() {

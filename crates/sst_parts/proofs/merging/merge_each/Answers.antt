@@ -41,7 +41,7 @@ parts-preserved g c =
     let end = c.index-handles-index in
     let bytes = g.S.FrameSource.bytes base.source in
     let at = ap (λ (hs : List Handle). slice_get hs c.parts.index) (sym c.requires.handles) ∙ slice_get-get_or c.args.handles.now c.parts.index end.result (omega (arith, c.parts-test.true)) ∙ ap (λ (x : Handle). Some x) (sym end.is) in
-    let zips = zips_by h bytes base.top base.tops (λ parts all is kept. c.parted_parts_are_stored.ensures h parts all base.top base.tops sums is kept) c.note_kept.ensures in
+    let zips = zips_by h bytes base.top base.tops (λ parts all is kept. c.parted_parts_are_stored.ensures h parts all base.top base.tops sums is kept) c.index-index.ensures.kept in
     record {
       kept = e.kept ∙ ap (λ (t : PartedParts g.row.S.Denot). record t { source = now.source }) inv.kept;
       source = record {
@@ -64,5 +64,5 @@ returns-clause-merged g c =
     let sums = g.met.H.BlockHash.hash128_fits in
     let bytes = g.S.FrameSource.bytes base.source in
     let end = subst (λ (hs : List Handle). length hs ≤ c.parts.index) c.requires.handles c.parts-test.false in
-    let zips = zips_by h bytes base.top base.tops (λ parts all is kept. c.parted_parts_are_stored.ensures h parts all base.top base.tops sums is kept) c.note_kept.ensures in
+    let zips = zips_by h bytes base.top base.tops (λ parts all is kept. c.parted_parts_are_stored.ensures h parts all base.top base.tops sums is kept) c.index-index.ensures.kept in
     each_done h c.args.filler c.parts.filler c.args.newer.now.list c.parts.newer.list bytes base.top base.tops c.parts.index end zips inv.merged
