@@ -3,3 +3,7 @@ pub mod Givens
 pub mod Places
 pub mod Listings
 pub mod BlockLists
+pub mod BlockWindows
+pub mod Listed
+pub mod Passing
+pub mod RunBlockLists

@@ -9,3 +9,5 @@ pub mod Index
 pub mod RunBlocks
 pub mod Runs
 pub mod Listing
+pub mod Windows
+pub mod Batches

@@ -15,4 +15,6 @@ pub mod index_block;
 mod output;
 pub mod run;
 pub mod run_blocks;
+pub mod run_scan;
 pub mod version;
+pub mod window;
