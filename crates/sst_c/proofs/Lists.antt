@@ -7,3 +7,5 @@ pub mod BlockWindows
 pub mod Listed
 pub mod Passing
 pub mod RunBlockLists
+pub mod KeyRanges
+pub mod KeyPlaces

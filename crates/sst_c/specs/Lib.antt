@@ -11,3 +11,4 @@ pub mod Runs
 pub mod Listing
 pub mod Windows
 pub mod Batches
+pub mod Ranges

@@ -15,6 +15,7 @@ pub mod index_block;
 mod output;
 pub mod run;
 pub mod run_blocks;
+pub mod run_range;
 pub mod run_scan;
 pub mod version;
 pub mod window;

@@ -2,7 +2,8 @@
 use Rattle.std.proofs.Common.{◌≡◌, ◌∙◌, ℕ, zero, suc, ◌+◌, ◌-◌, ◌≤◌, ◌<◌, List, [], ◌∷◌, ◌++◌, length, take, drop, reverse, refl, sym, ap, arith, inl, inr, Some, append_assoc, length-append, length-drop}
 use Rattle.std.specs.Prelude.{slice_get, ◌⊎◌}
 use Rattle.std.proofs.Math.Seq.{take-add, drop-append-add}
-use Rattle.std.proofs.lemmas.List.{append-nil, drop-append-le, take-append-le, drop-drop, reverse-append}
+use Rattle.std.proofs.lemmas.Bool.{cases_lt}
+use Rattle.std.proofs.lemmas.List.{append-nil, drop-append-le, take-append-le, take_all, drop-drop, reverse-append}
 use Rattle.sstable_blocks.specs.Prelude.{items_left}
 use Rattle.sstable_blocks.specs.Blocks.{joined}
 
@@ -97,3 +98,23 @@ between_back xs i to x at some less =
     let next : suc (i - 1) ≡ i = omega (arith, some) in
     ap (λ (v : List _). reverse v) (between_front xs (i - 1) to x at (omega (arith, some, less)) ∙ ap (λ k. x ∷ between xs k to) next)
     ∙ reverse-append (x ∷ []) (between xs i to)
+
+-- before the end of the last block are all
+pub all_before : {X : Type 0} (blocks : List (List X)) (b : ℕ) (xs : List X) → slice_get blocks b ≡ Some xs → suc b ≡ length blocks → length (joined (take b blocks)) + length xs ≡ length (joined blocks)
+all_before blocks b xs at last =
+    let all = ap (λ (v : List (List _)). length (joined v)) (take_all (suc b) blocks (omega (arith, last))) in
+    omega (arith, before_next blocks b xs at, all)
+
+-- of two places the first is not after the second, where the second is not up to the first
+pub place_falls : {X : Type 0} (blocks : List (List X)) (b i c j : ℕ) (xs : List X) → slice_get blocks c ≡ Some xs → j ≤ length xs → ((b < c) ⊎ ((b ≡ c) × (i ≤ j)) → ⊥)
+    → length (joined (take c blocks)) + j ≤ length (joined (take b blocks)) + i
+place_falls blocks b i c j xs at inside crossed = elim (cases_lt c b) [
+  | inl less ↦ place_rises blocks c j b i xs at inside (inl less)
+  | inr more ↦ elim (cases_lt b c) [
+    | inl past ↦ absurd (crossed (inl past))
+    | inr back ↦ elim (cases_lt j i) [
+      | inl behind ↦ place_rises blocks c j b i xs at inside (inr (omega (arith, more, back), omega (arith, behind)))
+      | inr before ↦ absurd (crossed (inr (omega (arith, more, back), before)))
+    ]
+  ]
+]
