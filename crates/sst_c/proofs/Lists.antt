@@ -9,3 +9,4 @@ pub mod Passing
 pub mod RunBlockLists
 pub mod KeyRanges
 pub mod KeyPlaces
+pub mod Reversed

@@ -45,8 +45,9 @@ fn end_of(bytes: &[u8], handles: &RunHandles) -> Place
 fn keys_before(part: &RunBlock<'_>, key: &[u8]) -> usize
     ensures { result ≡ counted entries.key (is_before (Included key.now)) part.now.block.items }
 {
-    Intervals::<InternalValue, DataBlockParsedItem>::new(part.block.as_slice())
-        .position(&Bound::below(key))
+    Intervals::<InternalValue, DataBlockParsedItem>::new(part.block.as_slice()).position(
+        &Bound::below(key),
+    )
 }
 
 // The place of the first entry of a run whose key is not below one.

@@ -1,7 +1,7 @@
 //! Scans of runs from both ends, by batches.
-ghost use Rattle.std.specs.Prelude.{◌≡◌, ◌⊎◌, ◌≤◌, ◌<◌, List, [], ◌∷◌, Some, drop, length};
+ghost use Rattle.std.specs.Prelude.{◌≡◌, ◌⊎◌, ◌+◌, ◌-◌, ◌≤◌, ◌<◌, List, [], ◌∷◌, Some, drop, length};
 ghost use Rattle.std.specs.Prelude.{false, true, nat_lt, reverse, slice_get};
-ghost use Rattle.sst_c.specs.Batches.{IsScan, Lists, Passes};
+ghost use Rattle.sst_c.specs.Batches.{IsScan, Lists, Passes, is_under, number_given};
 ghost use Rattle.sst_c.specs.Blocks.{IsPartAt};
 ghost use Rattle.sst_c.specs.Codes.{code_of};
 ghost use Rattle.sst_c.specs.declared.codes.Status.{Status};
@@ -15,18 +15,28 @@ use crate::data_block::{SstPlace, place_at};
 use crate::run::{SstRunHandles, run_handles};
 use crate::window::{RunBlock, SstWindow, block_at, is_window};
 use sst_block_core::laws::data_block_is_read;
-use sst_block_core::table::block::intervals::Intervals;
 use sstable_blocks::run::laws::sound_opens;
 use sstable_blocks::table::block::Trailer;
 use sstable_blocks::table::data_block::{DataBlockParsedItem, Iter};
-use sstable_blocks::{InternalValue, RunHandles, SeqNo};
+use sstable_blocks::{RunHandles, SeqNo};
+
+// Whether a sequence number is strictly below one, if there is one.
+#[inline(always)]
+fn is_under(below: Option<SeqNo>, seqno: SeqNo) -> bool
+    ensures { result ≡ is_under below seqno }
+{
+    match below {
+        Some(below) => seqno < below,
+        None => true,
+    }
+}
 
 // Lists the entry of an item behind those that are listed, if it is below a number.
 fn list_one(
     bytes: &[u8],
     part: &RunBlock<'_>,
     item: &DataBlockParsedItem,
-    below: SeqNo,
+    below: Option<SeqNo>,
     places: &mut [SstPlace],
     count: &mut usize,
 )
@@ -36,10 +46,19 @@ fn list_one(
     ensures { Lists bytes.now below (entry_of part.now.block.payload item.now ∷ []) places.old
         places.new count.old count.new }
 {
-    if item.seqno < below {
+    if is_under(below, item.seqno) {
         places[*count] = place_at(bytes, part.start, part.block.as_slice(), item);
         *count += 1;
     }
+}
+
+// The number of entries in a restart interval of a block.
+fn interval_of(part: &RunBlock<'_>) -> usize
+    ensures value { result ≡ part.now.block.interval }
+    ensures some { 0 < result }
+{
+    data_block_is_read();
+    usize::from(Trailer::new(part.block.as_slice()).interval())
 }
 
 // An iterator over the entries of a block from the one at an index on. It decodes those before it
@@ -49,8 +68,7 @@ fn entries_from<'a>(part: &RunBlock<'a>, index: usize) -> Iter<'a>
     ensures payload { result.payload ≡ part.now.block.payload }
     ensures left { items_left result.window ≡ drop index part.now.block.items }
 {
-    data_block_is_read();
-    let interval = usize::from(Trailer::new(part.block.as_slice()).interval());
+    let interval = interval_of(part);
     let head = index / interval;
     let mut items = part.block.iter();
     items.seek_to_offset(part.block.head_offset(head));
@@ -69,7 +87,7 @@ fn list_front(
     part: &RunBlock<'_>,
     from: usize,
     to: usize,
-    below: SeqNo,
+    below: Option<SeqNo>,
     places: &mut [SstPlace],
     count: &mut usize,
 ) -> usize
@@ -98,14 +116,48 @@ fn list_front(
     to
 }
 
-// The same from the back: the last entry first. It decodes each entry from the head of its restart
-// interval on.
+// The same of a few entries for which there is room, the last one first.
+fn list_turned(
+    bytes: &[u8],
+    part: &RunBlock<'_>,
+    from: usize,
+    to: usize,
+    below: Option<SeqNo>,
+    places: &mut [SstPlace],
+    count: &mut usize,
+)
+    requires part { IsPartAt bytes.now part.now.start part.now.block.payload }
+    requires range { (from ≤ to) × (to ≤ length part.now.block.items) }
+    requires room { count.old + (to - from) ≤ length places.old }
+    ensures { Lists bytes.now below
+        (reverse (items_left (record { list = part.now.block.items; lo = from; hi = to })))
+        places.old places.new count.old count.new }
+{
+    let listed = *count;
+    list_front(bytes, part, from, to, below, places, count);
+    places[listed..*count].reverse();
+}
+
+// Where the entries before an index begin that are listed at once: those of its restart interval,
+// from an index on, as many as there is room for.
+fn begin_before(from: usize, to: usize, interval: usize, room: usize) -> usize
+    requires some { from < to }
+    requires interval { 0 < interval }
+    requires room { 0 < room }
+    ensures range { (from ≤ result) × (result < to) }
+    ensures fits { to ≤ result + room }
+{
+    let head = (to - 1) / interval * interval;
+    from.max(head).max(to.saturating_sub(room))
+}
+
+// The same from the back: the last entry first, and at once those of a restart interval.
 fn list_back(
     bytes: &[u8],
     part: &RunBlock<'_>,
     from: usize,
     to: usize,
-    below: SeqNo,
+    below: Option<SeqNo>,
     places: &mut [SstPlace],
     count: &mut usize,
 ) -> usize
@@ -118,13 +170,12 @@ fn list_back(
         (reverse (items_left (record { list = part.now.block.items; lo = result; hi = to })))
         places.old places.new count.old count.new }
 {
-    let mut intervals =
-        Intervals::<InternalValue, DataBlockParsedItem>::new(part.block.as_slice());
+    let interval = interval_of(part);
     let mut at = to;
     while from < at && *count < places.len() {
-        at -= 1;
-        let item = intervals.item_at(at);
-        list_one(bytes, part, &item, below, places, count);
+        let next = begin_before(from, at, interval, places.len() - *count);
+        list_turned(bytes, part, next, at, below, places, count);
+        at = next;
     }
     at
 }
@@ -135,7 +186,7 @@ fn pass_front(
     part: &RunBlock<'_>,
     window: &mut SstWindow,
     to: usize,
-    below: SeqNo,
+    below: Option<SeqNo>,
     places: &mut [SstPlace],
     count: &mut usize,
 )
@@ -161,7 +212,7 @@ fn pass_back(
     part: &RunBlock<'_>,
     window: &mut SstWindow,
     from: usize,
-    below: SeqNo,
+    below: Option<SeqNo>,
     places: &mut [SstPlace],
     count: &mut usize,
 )
@@ -187,7 +238,7 @@ fn scan_front(
     bytes: &[u8],
     handles: &RunHandles,
     window: &mut SstWindow,
-    below: SeqNo,
+    below: Option<SeqNo>,
     places: &mut [SstPlace],
     count: &mut usize,
 )
@@ -219,7 +270,7 @@ fn scan_back(
     bytes: &[u8],
     handles: &RunHandles,
     window: &mut SstWindow,
-    below: SeqNo,
+    below: Option<SeqNo>,
     places: &mut [SstPlace],
     count: &mut usize,
 )
@@ -250,7 +301,7 @@ fn scan(
     bytes: &[u8],
     handles: &RunHandles,
     window: &mut SstWindow,
-    below: SeqNo,
+    below: Option<SeqNo>,
     back: bool,
     places: &mut [SstPlace],
     count: &mut usize,
@@ -271,8 +322,16 @@ fn scan(
     Status::Done
 }
 
-/// Lists the next entries of a window of a run that have a sequence number strictly below one: the
-/// first of them, or from the back where `reverse` is not 0, the last one first. The run is as for
+// A number that is given, if a flag says so.
+fn number_of(has: u8, number: u64) -> Option<u64>
+    ensures { result ≡ number_given has number }
+{
+    if has == 0 { None } else { Some(number) }
+}
+
+/// Lists the next entries of a window of a run, of those with a sequence number strictly below one
+/// if `has_below` is not 0: the first of them, or from the back where `reverse` is not 0, the last
+/// one first. The run is as for
 /// [`sst_run_block_count`](crate::run_blocks::sst_run_block_count). No memory is taken, and nothing
 /// is copied. The end of the window that it goes from is moved over the entries that it went past.
 ///
@@ -284,6 +343,7 @@ pub extern "C" fn sst_run_scan(
     bytes: &[u8],
     handles: &SstRunHandles,
     window: &mut SstWindow,
+    has_below: u8,
     below_seqno: u64,
     reverse: u8,
     places: &mut [SstPlace],
@@ -292,15 +352,15 @@ pub extern "C" fn sst_run_scan(
     requires { IsSoundRun run_hashes bytes.now (handles_given handles.now) }
     ensures { (s : Status) × (result ≡ code_of s)
         × ForSound run_hashes bytes.now (handles_given handles.now)
-        (λ blocks. IsScan bytes.now (stored blocks) below_seqno (nat_lt 0 reverse) window.old
-        window.new places.old places.new count.old count.new s) }
+        (λ blocks. IsScan bytes.now (stored blocks) (number_given has_below below_seqno)
+        (nat_lt 0 reverse) window.old window.new places.old places.new count.old count.new s) }
 {
     sound_opens();
     scan(
         bytes,
         &run_handles(handles),
         window,
-        below_seqno,
+        number_of(has_below, below_seqno),
         reverse > 0,
         places,
         count,

@@ -1,12 +1,11 @@
 -- Lists of places that grow: of no entry, of one, and of those of two lists.
-use Rattle.std.proofs.Common.{◌≡◌, ◌∙◌, ℕ, zero, suc, ◌+◌, ◌≤◌, ◌<◌, Bool, true, false, cond, ltb, List, [], ◌∷◌, ◌++◌, length, take, drop, set, refl, sym, ap, arith, subst, Some, append_assoc, length-append, length-set}
+use Rattle.std.proofs.Common.{◌≡◌, ◌∙◌, ℕ, zero, suc, ◌+◌, ◌≤◌, ◌<◌, Bool, true, false, cond, List, [], ◌∷◌, ◌++◌, length, take, drop, set, refl, sym, ap, arith, subst, Option, Some, append_assoc, length-append, length-set}
 use Rattle.std.specs.Prelude.{slice_get, filter}
-use Rattle.std.proofs.lemmas.Bool.{lt-ltb, le-ltb}
 use Rattle.std.proofs.lemmas.List.{append-nil, get_or_at, length_push, take_all, take_at}
 use Rattle.std.proofs.lemmas.List.Elements.{filter-append}
 use Rattle.std.proofs.lemmas.Option.{slice_get-get_or}
 use Rattle.sstable_blocks.specs.Prelude.{Entry}
-use Rattle.sst_c.specs.Batches.{Lists, visible}
+use Rattle.sst_c.specs.Batches.{Lists, is_under, visible}
 use Rattle.sst_c.specs.Blocks.{IsPlaceOf}
 use Rattle.sst_c.specs.Listing.{AreListed}
 use Rattle.sst_c.specs.declared.data_block.SstPlace.{SstPlace}
@@ -29,7 +28,7 @@ push_listed p before old new i f e len room is so_far =
     subst (λ xs. AreListed p xs old (set new i f)) all more
 
 -- of no entry nothing is listed
-pub lists_none : (bytes : List ℕ) (below : ℕ) (old : List SstPlace) (count : ℕ) → count ≤ length old → Lists bytes below [] old old count count
+pub lists_none : (bytes : List ℕ) (below : Option ℕ) (old : List SstPlace) (count : ℕ) → count ≤ length old → Lists bytes below [] old old count count
 lists_none bytes below old count room = record {
   more = λ start before len are. subst (λ xs. AreListed bytes xs start old) (sym (append-nil before)) are;
   count = omega arith;
@@ -38,9 +37,9 @@ lists_none bytes below old count room = record {
 }
 
 -- an entry that is not below the number is not listed
-pub lists_not : (bytes : List ℕ) (below : ℕ) (e : Entry) (old : List SstPlace) (count : ℕ) → below ≤ e.key.seqno → count ≤ length old → Lists bytes below (e ∷ []) old old count count
+pub lists_not : (bytes : List ℕ) (below : Option ℕ) (e : Entry) (old : List SstPlace) (count : ℕ) → is_under below e.key.seqno ≡ false → count ≤ length old → Lists bytes below (e ∷ []) old old count count
 lists_not bytes below e old count not room =
-    let hidden : visible below (e ∷ []) ≡ [] = ap (λ b. cond b (e ∷ []) []) (le-ltb e.key.seqno below not) in
+    let hidden : visible below (e ∷ []) ≡ [] = ap (λ b. cond b (e ∷ []) []) not in
     record {
       more = λ start before len are. subst (λ xs. AreListed bytes (before ++ xs) start old) (sym hidden) (subst (λ xs. AreListed bytes xs start old) (sym (append-nil before)) are);
       count = omega (arith, ap (λ (xs : List Entry). length xs) hidden);
@@ -49,10 +48,10 @@ lists_not bytes below e old count not room =
     }
 
 -- an entry that is below the number has its place behind the others
-pub lists_one : (bytes : List ℕ) (below : ℕ) (e : Entry) (old : List SstPlace) (count : ℕ) (f : SstPlace) → e.key.seqno < below → count < length old → IsPlaceOf bytes f e
+pub lists_one : (bytes : List ℕ) (below : Option ℕ) (e : Entry) (old : List SstPlace) (count : ℕ) (f : SstPlace) → is_under below e.key.seqno ≡ true → count < length old → IsPlaceOf bytes f e
     → Lists bytes below (e ∷ []) old (set old count f) count (count + 1)
 lists_one bytes below e old count f less room is =
-    let shown : visible below (e ∷ []) ≡ e ∷ [] = ap (λ b. cond b (e ∷ []) []) (lt-ltb e.key.seqno below less) in
+    let shown : visible below (e ∷ []) ≡ e ∷ [] = ap (λ b. cond b (e ∷ []) []) less in
     record {
       more = λ start before len are. subst (λ xs. AreListed bytes (before ++ xs) start (set old count f)) (sym shown) (push_listed bytes before start old count f e len room is are);
       count = omega (arith, ap (λ (xs : List Entry). length xs) shown);
@@ -61,9 +60,9 @@ lists_one bytes below e old count f less room is =
     }
 
 -- the entries of one list, and then those of another
-pub lists_more : (bytes : List ℕ) (below : ℕ) (xs ys : List Entry) (old mid new : List SstPlace) (a b c : ℕ) → Lists bytes below xs old mid a b → Lists bytes below ys mid new b c → Lists bytes below (xs ++ ys) old new a c
+pub lists_more : (bytes : List ℕ) (below : Option ℕ) (xs ys : List Entry) (old mid new : List SstPlace) (a b c : ℕ) → Lists bytes below xs old mid a b → Lists bytes below ys mid new b c → Lists bytes below (xs ++ ys) old new a c
 lists_more bytes below xs ys old mid new a b c first second =
-    let both : visible below (xs ++ ys) ≡ visible below xs ++ visible below ys = filter-append (λ (e : Entry). ltb e.key.seqno below) xs ys in
+    let both : visible below (xs ++ ys) ≡ visible below xs ++ visible below ys = filter-append (λ (e : Entry). is_under below e.key.seqno) xs ys in
     record {
       more = λ start before len are.
           (let so_far = first.more start before len are in

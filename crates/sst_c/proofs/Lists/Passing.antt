@@ -1,5 +1,5 @@
 -- Scans over a window of a run: over entries of the block at an end, on to the next block, and one after the other.
-use Rattle.std.proofs.Common.{◌≡◌, ◌∙◌, ℕ, zero, suc, ◌+◌, ◌-◌, ◌≤◌, ◌<◌, Bool, true, false, List, [], ◌∷◌, ◌++◌, length, take, reverse, refl, sym, ap, arith, subst, inl, inr, Some, add-one, append_assoc}
+use Rattle.std.proofs.Common.{◌≡◌, ◌∙◌, ℕ, zero, suc, ◌+◌, ◌-◌, ◌≤◌, ◌<◌, Bool, true, false, List, [], ◌∷◌, ◌++◌, length, take, reverse, refl, sym, ap, arith, subst, inl, inr, Option, Some, add-one, append_assoc}
 use Rattle.std.specs.Prelude.{slice_get, ◌⊎◌}
 use Rattle.std.proofs.lemmas.Bool.{cases_lt}
 use Rattle.std.proofs.lemmas.List.{append-nil, reverse-append, reverse-reverse}
@@ -23,7 +23,7 @@ no_move false w = (refl, refl)
 no_move true w = (refl, refl)
 
 -- nothing is passed
-pub passes_none : (bytes : List ℕ) (blocks : List (List Entry)) (below : ℕ) (back : Bool) (w : SstWindow) (old : List SstPlace) (count : ℕ) → IsWindow blocks w → count ≤ length old
+pub passes_none : (bytes : List ℕ) (blocks : List (List Entry)) (below : Option ℕ) (back : Bool) (w : SstWindow) (old : List SstPlace) (count : ℕ) → IsWindow blocks w → count ≤ length old
     → Passes bytes blocks below back w w old old count count
 passes_none bytes blocks below back w old count window room = record {
   window = window;
@@ -43,7 +43,7 @@ both_kept false u v w first second = (second.0 ∙ first.0, second.1 ∙ first.1
 both_kept true u v w first second = (second.0 ∙ first.0, second.1 ∙ first.1)
 
 -- a scan, and another from where it ended
-pub passes_more : (bytes : List ℕ) (blocks : List (List Entry)) (below : ℕ) (back : Bool) (u v w : SstWindow) (old mid new : List SstPlace) (a b c : ℕ)
+pub passes_more : (bytes : List ℕ) (blocks : List (List Entry)) (below : Option ℕ) (back : Bool) (u v w : SstWindow) (old mid new : List SstPlace) (a b c : ℕ)
     → Passes bytes blocks below back u v old mid a b → Passes bytes blocks below back v w mid new b c → Passes bytes blocks below back u w old new a c
 passes_more bytes blocks below back u v w old mid new a b c first second = record {
   window = second.window;
@@ -54,7 +54,7 @@ passes_more bytes blocks below back u v w old mid new a b c first second = recor
 }
 
 -- a scan from the first place on is a batch
-pub batch_from : (bytes : List ℕ) (blocks : List (List Entry)) (below : ℕ) (back : Bool) (u w : SstWindow) (old new : List SstPlace) (count : ℕ) → Passes bytes blocks below back u w old new 0 count
+pub batch_from : (bytes : List ℕ) (blocks : List (List Entry)) (below : Option ℕ) (back : Bool) (u w : SstWindow) (old new : List SstPlace) (count : ℕ) → Passes bytes blocks below back u w old new 0 count
     → (count ≡ length old) ⊎ (left_in blocks w ≡ []) → IsBatch bytes blocks below back u w old new count
 batch_from bytes blocks below back u w old new count scan all = record {
   window = scan.window;
@@ -77,7 +77,7 @@ up_to_more b i c j k less (inl before) = inl before
 up_to_more b i c j k less (inr same) = inr (same.0, omega (arith, less, same.1))
 
 -- the entries of the first block up to an index
-pub front_passes : (bytes : List ℕ) (blocks : List (List Entry)) (below : ℕ) (w : SstWindow) (xs : List Entry) (t : ℕ) (old new : List SstPlace) (a b : ℕ)
+pub front_passes : (bytes : List ℕ) (blocks : List (List Entry)) (below : Option ℕ) (w : SstWindow) (xs : List Entry) (t : ℕ) (old new : List SstPlace) (a b : ℕ)
     → IsWindow blocks w → slice_get blocks w.first_block ≡ Some xs → w.first_index ≤ t → t ≤ length xs → IsUpToPlace w.first_block t w.end_block w.end_index
     → Lists bytes below (between xs w.first_index t) old new a b → Passes bytes blocks below false w (record w { first_index = t }) old new a b
 front_passes bytes blocks below w xs t old new a b window at less inside up lists =
@@ -94,7 +94,7 @@ front_passes bytes blocks below w xs t old new a b window at less inside up list
     }
 
 -- from the end of the first block on to the next one
-pub front_next : (bytes : List ℕ) (blocks : List (List Entry)) (below : ℕ) (w : SstWindow) (xs : List Entry) (old : List SstPlace) (count : ℕ)
+pub front_next : (bytes : List ℕ) (blocks : List (List Entry)) (below : Option ℕ) (w : SstWindow) (xs : List Entry) (old : List SstPlace) (count : ℕ)
     → IsWindow blocks w → slice_get blocks w.first_block ≡ Some xs → w.first_index ≡ length xs → w.first_block < w.end_block → count ≤ length old
     → Passes bytes blocks below false w (record w { first_block = w.first_block + 1; first_index = 0 }) old old count count
 front_next bytes blocks below w xs old count window at whole less room =
@@ -129,7 +129,7 @@ none_left blocks w block index =
     between_none (joined blocks) (length (joined (take w.first_block blocks)) + w.first_index) (length (joined (take w.end_block blocks)) + w.end_index) (omega (arith, n, index))
 
 -- the entries of the last block down to an index
-pub back_passes : (bytes : List ℕ) (blocks : List (List Entry)) (below : ℕ) (w : SstWindow) (xs : List Entry) (t : ℕ) (old new : List SstPlace) (a b : ℕ)
+pub back_passes : (bytes : List ℕ) (blocks : List (List Entry)) (below : Option ℕ) (w : SstWindow) (xs : List Entry) (t : ℕ) (old new : List SstPlace) (a b : ℕ)
     → IsWindow blocks w → slice_get blocks w.end_block ≡ Some xs → t ≤ w.end_index → w.end_index ≤ length xs → IsUpToPlace w.first_block w.first_index w.end_block t
     → Lists bytes below (reverse (between xs t w.end_index)) old new a b → Passes bytes blocks below true w (record w { end_index = t }) old new a b
 back_passes bytes blocks below w xs t old new a b window at less inside up lists =
@@ -146,7 +146,7 @@ back_passes bytes blocks below w xs t old new a b window at less inside up lists
     }
 
 -- from the start of the last block on to the one before it
-pub back_next : (bytes : List ℕ) (blocks : List (List Entry)) (below : ℕ) (w : SstWindow) (xs : List Entry) (old : List SstPlace) (count : ℕ)
+pub back_next : (bytes : List ℕ) (blocks : List (List Entry)) (below : Option ℕ) (w : SstWindow) (xs : List Entry) (old : List SstPlace) (count : ℕ)
     → IsWindow blocks w → slice_get blocks (w.end_block - 1) ≡ Some xs → w.end_index ≡ 0 → w.first_block < w.end_block → count ≤ length old
     → Passes bytes blocks below true w (record w { end_block = w.end_block - 1; end_index = length xs }) old old count count
 back_next bytes blocks below w xs old count window at none less room =

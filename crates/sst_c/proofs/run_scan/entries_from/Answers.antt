@@ -1,28 +1,20 @@
 use Rattle.std.proofs.Common.{◌≡◌, ◌∙◌, ◌≤◌, ◌<◌, ◌+◌, ◌-◌, ◌*◌, ◌/◌, ℕ, List, [], length, drop, take, sym, ap, arith, subst, add-one, length-drop}
 use Rattle.std.proofs.Math.Nat.{div-mul-le_self}
 use Rattle.std.proofs.lemmas.List.{take_rest}
-use Rattle.xxh3.specs.Xxh3.{xxh3_64}
 use Rattle.sst_block_core.specs.Body.{place_offset}
-use Rattle.sstable_blocks.specs.Prelude.{Entry, IsParsedEntry, Window, entries, entry_of, items_left, trailer_in}
+use Rattle.sstable_blocks.specs.Prelude.{Entry, IsParsedEntry, Window, entries, entry_of, items_left}
 use Rattle.sstable_blocks.specs.BlockLaws.{took_some, next_none}
 use Rattle.sst_c.proofs.Lists.Listings.{first_from}
 use Rattle.sst_c.proofs.run_scan.entries_from.Goals as goal
-
-pub new-requires : goal.new-requires
-new-requires c =
-    let block = c.args.part.now.block in
-    let read = c.data_block_is_read.ensures xxh3_64 block.payload block.items block.interval block.stored c.as_slice.ensures.fits c.as_slice.ensures.encoded in
-    subst (λ p. 31 ≤ length p) (sym c.as_slice.ensures.value) read.0.encoded.trailer
 
 pub loop-at-init : goal.loop-at-init
 loop-at-init c =
     let block = c.args.part.now.block in
     let it = c.iter-items.result in
     let fresh = c.iter-items.ensures in
-    let r = c.from-interval.result in
+    let r = c.interval_of-interval.result in
     let j = c.args.index / r in
-    let read = c.data_block_is_read.ensures xxh3_64 block.payload block.items block.interval block.stored c.as_slice.ensures.fits c.as_slice.ensures.encoded in
-    let interval : r ≡ block.interval = c.from-interval.ensures ∙ c.interval.ensures ∙ ap (λ p. (trailer_in p).interval) (c.new.ensures ∙ c.as_slice.ensures.value) ∙ read.2 in
+    let interval : r ≡ block.interval = c.interval_of-interval.ensures.value in
     let list : it.window.list ≡ block.items = ap (λ (w : Window Entry). w.list) fresh.window in
     let inside : j * block.interval < length block.items = c.head_offset.ensures.inside in
     let value : c.head_offset.result ≡ place_offset entries block.interval block.items (j * block.interval) = c.head_offset.ensures.value in
@@ -60,5 +52,5 @@ returns-in_default-clause-left c =
 
 pub returns-clause-left : goal.returns-clause-left
 returns-clause-left c =
-    let end : c.loop-at._at ≡ c.args.index = omega (arith, c.loop-at-test.false, div-mul-le_self c.args.index c.from-interval.result) in
+    let end : c.loop-at._at ≡ c.args.index = omega (arith, c.loop-at-test.false, div-mul-le_self c.args.index c.interval_of-interval.result) in
     c.loop-at.invariant.left ∙ ap (λ n. drop n c.args.part.now.block.items) end

@@ -1,12 +1,10 @@
-use Rattle.std.proofs.Common.{◌≡◌, ◌≤◌, reverse}
+use Rattle.std.proofs.Common.{◌≤◌, reverse}
 use Rattle.sst_c.specs.Batches.{Lists}
 use Rattle.sst_c.proofs.Lists.BlockWindows.{between}
 use Rattle.sst_c.proofs.run_scan.list_back.Given as goal
 
 abbrev pub invariant-loop-at : goal.invariant-loop-at
 invariant-loop-at l = record {
-  payload : l.intervals.list.payload ≡ l.fn.part.block.payload;
-  items : l.intervals.list.items ≡ l.fn.part.block.items;
   range : (l.fn.from ≤ l.at) × (l.at ≤ l.fn.to);
   lists : Lists l.fn.bytes l.fn.below (reverse (between l.fn.part.block.items l.at l.fn.to)) l.fn.places l.places l.fn.count l.count;
 }
