@@ -6,7 +6,8 @@
 #include <string.h>
 
 #define COUNT 300
-static char keys[COUNT][8];
+#define ALL 1000 /* no bound of sequence numbers */
+static char keys[COUNT][16];
 static struct sst_entry entries[COUNT];
 static const size_t cuts[] = {1, 40, 56, 57, 200};
 static struct sst_run_config config = {0, 1, 10, 16, 3};
@@ -21,12 +22,12 @@ static void expect(int is, const char *what) {
     failures += !is;
 }
 
-/* Three versions of each key. */
+/* Three versions of each key, one at the greatest number. */
 static int make_run(void) {
     for (int i = 0; i < COUNT; i++) {
         snprintf(keys[i], sizeof keys[i], "k%05d", i / 3 * 2);
         entries[i] = (struct sst_entry){(const uint8_t *)keys[i], 6, (const uint8_t *)keys[i], 6,
-                                        (uint64_t)(7 - i % 3 * 2), i % 5 == 0 ? SST_TOMBSTONE : SST_VALUE};
+                                        i == 3 ? UINT64_MAX : (uint64_t)(7 - i % 3 * 2), i % 5 == 0 ? SST_TOMBSTONE : SST_VALUE};
     }
     sst_run_write(entries, COUNT, cuts, 5, &config, NULL == run ? (uint8_t *)keys : run, 0, &len, &handles);
     run = malloc(len);
@@ -52,7 +53,7 @@ static int same(const struct sst_place *a, const struct sst_place *b) {
 
 static uint32_t next(struct sst_window *window, uint64_t below, int reverse, struct sst_place *places,
                      size_t cap, size_t *count) {
-    return sst_run_scan(run, len, &handles, window, below, (uint8_t)reverse, places, cap, count);
+    return sst_run_scan(run, len, &handles, window, below != ALL, below, (uint8_t)reverse, places, cap, count);
 }
 
 static struct sst_window range(const char *from, const char *to) {
@@ -67,7 +68,7 @@ static size_t wanted(const char *from, const char *to, uint64_t below, size_t *i
     size_t count = 0;
     for (size_t i = 0; i < COUNT; i++)
         if ((from == NULL || strcmp(keys[i], from) >= 0) && (to == NULL || strcmp(keys[i], to) < 0) &&
-            entries[i].seqno < below)
+            (below == ALL || entries[i].seqno < below))
             indexes[count++] = i;
     return count;
 }
@@ -98,7 +99,7 @@ static void window(size_t first_block, size_t first_index, size_t end_block, siz
     struct sst_window window = {first_block, first_index, end_block, end_index}, old = window;
     struct sst_place place = {.seqno = 5};
     size_t count = 7;
-    uint32_t status = next(&window, UINT64_MAX, 0, &place, 1, &count);
+    uint32_t status = next(&window, ALL, 0, &place, 1, &count);
     int left = memcmp(&window, &old, sizeof window) == 0 && place.seqno == 5 && count == 7;
     printf("window %zu %zu to %zu %zu: %s%s\n", first_block, first_index, end_block, end_index,
            sst_error_name(status), status == SST_OK ? "" : left ? ", all left" : ", something written");
@@ -111,7 +112,7 @@ int main(void) {
                                             {"k00100", "k00050"}, {"z", NULL},          {NULL, "a"},
                                             {"a", "z"},           {"z", "a"}};
     static const size_t caps[] = {1, 2, 5, 16, 64};
-    static const uint64_t belows[] = {UINT64_MAX, 7, 4, 3, 0};
+    static const uint64_t belows[] = {ALL, UINT64_MAX, 7, 4, 0};
     size_t scans = 0;
     for (size_t b = 0; b < sizeof bounds / sizeof *bounds; b++)
         for (size_t c = 0; c < sizeof caps / sizeof *caps; c++)
@@ -122,7 +123,7 @@ int main(void) {
     w = range("k00026", "k00130");
     printf("k00026 to k00130: %zu %zu to %zu %zu\n", w.first_block, w.first_index, w.end_block, w.end_index);
     size_t count = 7;
-    printf("no places: %s, ", sst_error_name(next(&w, UINT64_MAX, 0, NULL == run ? NULL : all, 0, &count)));
+    printf("no places: %s, ", sst_error_name(next(&w, ALL, 0, NULL == run ? NULL : all, 0, &count)));
     printf("%zu\n", count);
     window(0, 0, 5, 100);
     window(0, 1, 1, 0);

@@ -252,17 +252,19 @@ void sst_run_range(const uint8_t *run, size_t len, const struct sst_run_handles 
                    const uint8_t *from, size_t from_len, uint8_t has_to, const uint8_t *to, size_t to_len,
                    struct sst_window *window);
 
-/* Writes where the next entries of a window of a run are, of those with a sequence number strictly below one:
-   the first ones that are left in order, or, where reverse is not 0, the last ones, the last first. The
-   run is as for sst_run_get, and the offsets are those in the run. That end of the window is moved over
-   the entries that the call went past, so the calls with a window, from either end in any mixture, list
-   each of its entries once.
-   SST_OK: the first *count places are written, cap of them, or fewer where nothing is left then; so *count
-   is 0 exactly if there is no entry below the number left, or cap is 0. The places after them are left.
+/* Writes where the next entries of a window of a run are, if has_below is not 0 of those with a sequence number
+   strictly below one: the first ones that are left in order, or, where reverse is not 0, the last ones, the
+   last first. The run is as for sst_run_get, and the offsets are those in the run. That end of the window is
+   moved over the entries that the call went past, and the other one stays, so the calls with a window, from
+   either end in any mixture, list each of its entries once.
+   SST_OK: the first *count places are written: all of them, or fewer where nothing is left then; so *count
+   is 0 exactly if no such entry was left, or cap is 0. The places after them are left.
    SST_BAD_ARGUMENT: exactly if the window is none of the run's: it has no such block, the block has fewer
-   entries than an index, or the first place is after the end; then nothing is written. Takes no memory. */
+   entries than an index, or the first place is after the end; then nothing is written. Takes no memory. A
+   call decodes from a block the entries that it goes past, and before them at most those of a restart
+   interval; from the back the latter again for each restart interval that it lists in part. */
 uint32_t sst_run_scan(const uint8_t *run, size_t len, const struct sst_run_handles *handles,
-                      struct sst_window *window, uint64_t below_seqno, uint8_t reverse,
+                      struct sst_window *window, uint8_t has_below, uint64_t below_seqno, uint8_t reverse,
                       struct sst_place *places, size_t cap, size_t *count);
 
 /* Reads where index and filter are in the run of a table file, from its last 24 bytes; the run is the bytes
