@@ -105,6 +105,33 @@ static void window(size_t first_block, size_t first_index, size_t end_block, siz
            sst_error_name(status), status == SST_OK ? "" : left ? ", all left" : ", something written");
 }
 
+/* Scans a data block from both ends in turn, and refuses windows that it does not have. */
+static void scan_block(void) {
+    static uint8_t block[16384];
+    static struct sst_place listed[COUNT], places[7];
+    size_t block_len = 0, count = 0, lo = 0, hi = COUNT;
+    if (sst_data_block_encode(entries, COUNT, 16, 0, 1, block, sizeof block, &block_len) != SST_OK ||
+        sst_data_block_entries(block, block_len, listed, COUNT, &count) != SST_OK)
+        return;
+    struct sst_window window = {0, 0, 0, COUNT};
+    for (size_t turn = 0; lo < hi; turn++) {
+        uint8_t reverse = turn % 2;
+        size_t cap = 1 + turn % 7, due = hi - lo < cap ? hi - lo : cap;
+        uint32_t status = sst_data_block_scan(block, block_len, &window, 0, 0, reverse, places, cap, &count);
+        expect(status == SST_OK && count == due, "a batch of a block");
+        for (size_t i = 0; i < due; i++) expect(same(&places[i], &listed[reverse ? --hi : lo++]), "the next of a block");
+    }
+    printf("a block: %zu to %zu; ", window.first_index, window.end_index);
+    const struct sst_window wrong[] = {{0, 0, 0, COUNT + 1}, {0, 2, 0, 1}, {0, 0, 1, 0}, {1, 0, 1, 0}};
+    for (size_t i = 0; i < 4; i++) {
+        window = wrong[i];
+        printf("%s, ", sst_error_name(sst_data_block_scan(block, block_len, &window, 0, 0, 0, places, 1, &count)));
+    }
+    window = (struct sst_window){0, 0, 0, COUNT};
+    printf("%s", sst_error_name(sst_data_block_scan(block, block_len, &window, 1, 0, 0, places, 1, &count)));
+    printf(" %zu\n", count);
+}
+
 int main(void) {
     if (!make_run() || !list_blocks()) return 1;
     static const char *const bounds[][2] = {{NULL, NULL},         {"k00006", NULL},     {NULL, "k00006"},
@@ -136,6 +163,7 @@ int main(void) {
     window(4, 8, 4, 7);
     window(SIZE_MAX, 0, SIZE_MAX, 0);
     window(0, SIZE_MAX, 5, 0);
+    scan_block();
     free(run);
     printf("%zu scans, %d failures\n", scans, failures);
     return failures != 0;

@@ -267,6 +267,12 @@ uint32_t sst_run_scan(const uint8_t *run, size_t len, const struct sst_run_handl
                       struct sst_window *window, uint8_t has_below, uint64_t below_seqno, uint8_t reverse,
                       struct sst_place *places, size_t cap, size_t *count);
 
+/* The same of a data block, as of a run that has this one block: both blocks of the window are 0, and the
+   offsets are those in the block. The bytes are as for sst_data_block_find. */
+uint32_t sst_data_block_scan(const uint8_t *payload, size_t len, struct sst_window *window, uint8_t has_below,
+                             uint64_t below_seqno, uint8_t reverse, struct sst_place *places, size_t cap,
+                             size_t *count);
+
 /* Reads where index and filter are in the run of a table file, from its last 24 bytes; the run is the bytes
    before these. SST_OK: *handles tells it. SST_TRUNCATED: exactly if there are fewer than 24 bytes, and
    *handles is left. Takes no memory. */

@@ -10,3 +10,4 @@ pub mod RunBlockLists
 pub mod KeyRanges
 pub mod KeyPlaces
 pub mod Reversed
+pub mod OneBlock

@@ -37,3 +37,10 @@ count_before blocks block index = length (joined (take block blocks)) + index
 -- the entries that a window of a run has left: those between its places
 abbrev pub left_in : List (List Entry) → SstWindow → List Entry
 left_in blocks w = items_left (record { list = joined blocks; lo = count_before blocks w.first_block w.first_index; hi = count_before blocks w.end_block w.end_index })
+
+-- numbers are a window of one block of so many entries, as of a run that has no other
+pub record IsWindowIn (len : ℕ) (w : SstWindow) : Type 0 where
+  pub first : w.first_block ≡ 0
+  pub end : w.end_block ≡ 0
+  pub uncrossed : w.first_index ≤ w.end_index
+  pub inside : w.end_index ≤ len

@@ -4,6 +4,7 @@
 //! kept between calls, so any thread may call. A call returns a code: see [`codes`].
 #![tactic(auto)]
 
+pub mod block_scan;
 pub mod codes;
 pub mod data_block;
 pub mod entries;

@@ -180,8 +180,8 @@ fn list_back(
     at
 }
 
-// Goes over the entries of the first block of a window up to an index, while there is room.
-fn pass_front(
+/// Goes over the entries of the first block of a window up to an index, while there is room.
+pub(crate) fn pass_front(
     bytes: &[u8],
     part: &RunBlock<'_>,
     window: &mut SstWindow,
@@ -206,8 +206,8 @@ fn pass_front(
     window.first_index = list_front(bytes, part, window.first_index, to, below, places, count);
 }
 
-// The same of the last block, from the end down to an index.
-fn pass_back(
+/// The same of the last block, from the end down to an index.
+pub(crate) fn pass_back(
     bytes: &[u8],
     part: &RunBlock<'_>,
     window: &mut SstWindow,
@@ -322,8 +322,8 @@ fn scan(
     Status::Done
 }
 
-// A number that is given, if a flag says so.
-fn number_of(has: u8, number: u64) -> Option<u64>
+/// A number that is given, if a flag says so.
+pub(crate) fn number_of(has: u8, number: u64) -> Option<u64>
     ensures { result ≡ number_given has number }
 {
     if has == 0 { None } else { Some(number) }

@@ -1,6 +1,6 @@
 -- The place of a run where the keys end of which a test holds that holds of each lesser key: by the ends of the blocks, and
 -- then in one block.
-use Rattle.std.proofs.Common.{◌≡◌, ◌≢◌, ◌∙◌, ℕ, zero, suc, ◌+◌, ◌<◌, ◌^◌, Bool, true, false, cond, List, [], ◌∷◌, ◌++◌, length, map, take, refl, sym, ap, arith, subst, inl, inr, Some, None, length-append}
+use Rattle.std.proofs.Common.{◌≡◌, ◌≢◌, ◌∙◌, ℕ, suc, ◌+◌, ◌<◌, ◌^◌, Bool, true, false, cond, List, [], ◌∷◌, ◌++◌, length, map, take, refl, sym, ap, arith, subst, inl, inr, Some, None, length-append}
 use Rattle.std.specs.Prelude.{slice_get, ◌⊎◌}
 use Rattle.std.specs.List.{AllZip}
 use Rattle.std.specs.declared.ops.Bound.TheVariants.{Included}

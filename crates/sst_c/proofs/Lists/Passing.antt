@@ -1,5 +1,5 @@
 -- Scans over a window of a run: over entries of the block at an end, on to the next block, and one after the other.
-use Rattle.std.proofs.Common.{◌≡◌, ◌∙◌, ℕ, zero, suc, ◌+◌, ◌-◌, ◌≤◌, ◌<◌, Bool, true, false, List, [], ◌∷◌, ◌++◌, length, take, reverse, refl, sym, ap, arith, subst, inl, inr, Option, Some, add-one, append_assoc}
+use Rattle.std.proofs.Common.{◌≡◌, ◌∙◌, ℕ, suc, ◌+◌, ◌-◌, ◌≤◌, ◌<◌, Bool, true, false, List, [], ◌++◌, length, take, reverse, refl, sym, ap, arith, inl, inr, Option, Some, add-one, append_assoc}
 use Rattle.std.specs.Prelude.{slice_get, ◌⊎◌}
 use Rattle.std.proofs.lemmas.Bool.{cases_lt}
 use Rattle.std.proofs.lemmas.List.{append-nil, reverse-append, reverse-reverse}
@@ -8,7 +8,7 @@ use Rattle.sstable_blocks.specs.Prelude.{Entry}
 use Rattle.sstable_blocks.specs.Blocks.{joined}
 use Rattle.sstable_blocks.specs.BetweenLaws.{item_found}
 use Rattle.sst_c.specs.Batches.{IsBatch, IsCut, IsOtherEndKept, Lists, Passes}
-use Rattle.sst_c.specs.Windows.{IsPlaceIn, IsUpToPlace, IsWindow, left_in}
+use Rattle.sst_c.specs.Windows.{IsUpToPlace, IsWindow, left_in}
 use Rattle.sst_c.specs.declared.data_block.SstPlace.{SstPlace}
 use Rattle.sst_c.specs.declared.window.SstWindow.{SstWindow}
 use Rattle.sst_c.proofs.Lists.BlockWindows.{before_next, between, between_none, place_rises, split_between, within_block}

@@ -2,7 +2,7 @@
 use Rattle.std.proofs.Common.{◌≡◌, ◌∙◌, ℕ, ◌+◌, ◌-◌, ◌≤◌, ◌<◌, Bool, cond, List, [], ◌∷◌, ◌++◌, length, take, drop, reverse, get_or, refl, sym, ap, arith, subst, inl, inr, Option, Some, append_assoc, length-append, length-drop}
 use Rattle.std.specs.Prelude.{slice_get, filter}
 use Rattle.std.proofs.lemmas.Bool.{cases_Bool, cases_lt}
-use Rattle.std.proofs.lemmas.List.{append-nil, drop_at, get_or-append_right, get_or-drop, get_or-reverse, get_or-take, get_or_append_left, length-reverse, length-take-le, reverse-append, drop-drop}
+use Rattle.std.proofs.lemmas.List.{drop_at, get_or-append_right, get_or-drop, get_or-reverse, get_or-take, get_or_append_left, length-reverse, length-take-le, reverse-append}
 use Rattle.std.proofs.lemmas.List.Elements.{filter-append}
 use Rattle.std.proofs.lemmas.Option.{get_or_from_slice_get, slice_get-get_or, slice_get_within}
 use Rattle.std.proofs.Math.Nat.{min-le_left}

@@ -1,13 +1,13 @@
 -- The blocks of a sound run, as its bytes have them.
-use Rattle.std.proofs.Common.{◌≡◌, ◌∙◌, ℕ, zero, suc, ◌<◌, ◌≤◌, List, [], ◌∷◌, length, map, refl, sym, ap, arith, Some, None}
+use Rattle.std.proofs.Common.{◌≡◌, ◌∙◌, ℕ, suc, ◌<◌, ◌≤◌, List, [], ◌∷◌, length, map, refl, sym, ap, arith, Some}
 use Rattle.std.specs.Prelude.{slice_get}
 use Rattle.std.specs.Option.{option_map}
 use Rattle.sstable_blocks.specs.BlockLaws.{handle_range}
 use Rattle.std.proofs.lemmas.List.{length-map}
-use Rattle.std.proofs.lemmas.Option.{slice_get-map, slice_get_within, slice_get_past}
+use Rattle.std.proofs.lemmas.Option.{slice_get-map, slice_get_within}
 use Rattle.xxh3.specs.Xxh3.{xxh3_64}
 use Rattle.sstable_blocks.specs.Prelude.{HandleParts, Entry, Handle, entries, items_in, plain}
-use Rattle.sstable_blocks.specs.Opened.{IsOpen, Opened, index_in, payload_in, range_of}
+use Rattle.sstable_blocks.specs.Opened.{Opened, index_in, payload_in, range_of}
 use Rattle.sstable_blocks.specs.declared.run.RunHandles.{RunHandles}
 use Rattle.sst_c.specs.Windows.{IsPlaceIn, blocks_in, stored}
 use Rattle.sst_c.proofs.Lists.BlockLists.{some_range}

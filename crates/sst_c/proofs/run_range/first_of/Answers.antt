@@ -1,8 +1,6 @@
-use Rattle.std.proofs.Common.{◌≡◌, ◌∙◌, ◌+◌, List, Option, length, sym, ap, arith, subst}
-use Rattle.std.proofs.lemmas.Option.{slice_get_within}
-use Rattle.sstable_blocks.specs.Prelude.{Entry, entries}
+use Rattle.std.proofs.Common.{◌≡◌, ◌∙◌, sym, ap, arith}
+use Rattle.sstable_blocks.specs.Prelude.{entries}
 use Rattle.sstable_blocks.specs.Blocks.{joined}
-use Rattle.sstable_blocks.specs.BetweenLaws.{item_found}
 use Rattle.sstable_blocks.specs.BoundLaws.{count_none}
 use Rattle.sstable_blocks.specs.RisingLaws.{counted}
 use Rattle.sstable_blocks.specs.Scans.{is_before}

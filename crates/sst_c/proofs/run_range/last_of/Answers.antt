@@ -1,5 +1,5 @@
-use Rattle.std.proofs.Common.{◌≡◌, ◌∙◌, List, length, sym, ap}
-use Rattle.sstable_blocks.specs.Prelude.{Entry, entries}
+use Rattle.std.proofs.Common.{◌∙◌, sym, ap}
+use Rattle.sstable_blocks.specs.Prelude.{entries}
 use Rattle.sstable_blocks.specs.Blocks.{joined}
 use Rattle.sstable_blocks.specs.BoundLaws.{count_all}
 use Rattle.sstable_blocks.specs.RisingLaws.{counted}

@@ -1,4 +1,4 @@
-use Rattle.std.proofs.Common.{◌≡◌, ◌∙◌, List, [], ◌∷◌, ◌++◌, length, drop, refl, sym, ap, arith, subst, add-one, length-drop}
+use Rattle.std.proofs.Common.{◌≡◌, ◌∙◌, List, [], ◌∷◌, length, drop, sym, ap, arith, subst, add-one, length-drop}
 use Rattle.sstable_blocks.specs.Prelude.{Entry, IsParsedEntry, entry_of}
 use Rattle.sstable_blocks.specs.BlockLaws.{took_some, next_none}
 use Rattle.sst_c.specs.Batches.{Lists}

@@ -1,7 +1,7 @@
 use Rattle.std.proofs.Common.{◌∙◌, sym, subst}
 use Rattle.sstable_blocks.specs.Prelude.{entry_of}
 use Rattle.sst_c.specs.Blocks.{IsPlaceOf}
-use Rattle.sst_c.proofs.Lists.Listed.{lists_not, lists_one}
+use Rattle.sst_c.proofs.Lists.Listed.{lists_one}
 use Rattle.sst_c.proofs.run_scan.list_one.Goals as goal
 
 pub returns-then-is_under : goal.returns-then-is_under

@@ -1,4 +1,4 @@
-use Rattle.std.proofs.Common.{◌≡◌, ◌∙◌, ◌+◌, ◌-◌, ◌≤◌, List, ◌++◌, length, take, drop, reverse, sym, ap, arith, subst}
+use Rattle.std.proofs.Common.{◌≡◌, ◌∙◌, ◌+◌, ◌-◌, List, ◌++◌, length, take, drop, reverse, sym, ap, arith, subst}
 use Rattle.std.proofs.lemmas.List.{drop-drop}
 use Rattle.sst_c.specs.Batches.{Lists}
 use Rattle.sst_c.specs.declared.data_block.SstPlace.{SstPlace}

@@ -1,4 +1,3 @@
-use Rattle.std.proofs.Common.{arith}
 use Rattle.sst_c.proofs.Lists.Passing.{back_passes, up_to_more}
 use Rattle.sst_c.proofs.run_scan.pass_back.Goals as goal
 

@@ -1,5 +1,4 @@
-use Rattle.std.proofs.Common.{◌≡◌, ◌∙◌, ◌+◌, ◌-◌, ◌<◌, List, Some, true, length, arith, sym, ap, subst, inl, inr}
-use Rattle.sstable_blocks.specs.Prelude.{Entry}
+use Rattle.std.proofs.Common.{◌≡◌, ◌-◌, ◌<◌, true, arith, sym, subst, inl, inr}
 use Rattle.sst_c.specs.Batches.{Passes}
 use Rattle.sst_c.specs.Windows.{IsUpToPlace, blocks_in}
 use Rattle.sst_c.proofs.Lists.Passing.{back_next, passes_more, passes_none}

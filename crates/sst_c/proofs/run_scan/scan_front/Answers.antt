@@ -1,7 +1,5 @@
-use Rattle.std.proofs.Common.{◌≡◌, ◌∙◌, ◌+◌, ◌<◌, List, Some, false, length, arith, sym, ap, subst, inl, inr}
+use Rattle.std.proofs.Common.{◌≡◌, ◌∙◌, ◌+◌, ◌<◌, Some, false, length, arith, ap, inl, inr}
 use Rattle.std.specs.Prelude.{slice_get}
-use Rattle.sstable_blocks.specs.Prelude.{Entry}
-use Rattle.sst_c.specs.Batches.{Passes}
 use Rattle.sst_c.specs.Windows.{IsUpToPlace, blocks_in}
 use Rattle.sst_c.proofs.Lists.Passing.{front_next, passes_more, passes_none}
 use Rattle.sst_c.proofs.Lists.RunBlockLists.{place_inside}
