@@ -55,9 +55,10 @@ fn scan(
     Status::Done
 }
 
-/// Lists the next entries of a window of a data block, as [`sst_run_scan`](crate::run_scan::sst_run_scan)
-/// does of a run that has this one block: both places of the window are in block 0. The bytes are
-/// known to be a data block as for [`sst_data_block_find`](crate::data_block::sst_data_block_find).
+/// Lists the next entries of a window of a data block, as
+/// [`sst_run_scan`](crate::run_scan::sst_run_scan) does of a run that has this one block: both
+/// places of the window are in block 0. The bytes are known to be a data block as for
+/// [`sst_data_block_find`](crate::data_block::sst_data_block_find).
 #[unsafe(no_mangle)]
 pub extern "C" fn sst_data_block_scan(
     payload: &[u8],

@@ -1,9 +1,9 @@
 -- Windows over the joined blocks of a list: what is between two places of the blocks.
-use Rattle.std.proofs.Common.{◌≡◌, ◌∙◌, ℕ, zero, suc, ◌+◌, ◌-◌, ◌≤◌, ◌<◌, List, [], ◌∷◌, ◌++◌, length, take, drop, reverse, sym, ap, arith, inl, inr, Some, append_assoc, length-append, length-drop}
+use Rattle.std.proofs.Common.{◌≡◌, ◌∙◌, ℕ, zero, suc, ◌+◌, ◌-◌, ◌≤◌, ◌<◌, List, [], ◌∷◌, ◌++◌, length, take, drop, sym, ap, arith, inl, inr, Some, append_assoc, length-append, length-drop}
 use Rattle.std.specs.Prelude.{slice_get, ◌⊎◌}
 use Rattle.std.proofs.Math.Seq.{take-add, drop-append-add}
 use Rattle.std.proofs.lemmas.Bool.{cases_lt}
-use Rattle.std.proofs.lemmas.List.{append-nil, drop-append-le, take-append-le, take_all, drop-drop, reverse-append}
+use Rattle.std.proofs.lemmas.List.{append-nil, drop-append-le, take-append-le, take_all, drop-drop}
 use Rattle.sstable_blocks.specs.Prelude.{items_left}
 use Rattle.sstable_blocks.specs.Blocks.{joined}
 
@@ -91,13 +91,6 @@ pub between_push : {X : Type 0} (xs : List X) (from i : ℕ) (x : X) → from �
 between_push xs from i x less at =
     split_between xs from i (i + 1) less (omega arith)
     ∙ ap (λ (v : List _). between xs from i ++ v) (between_front xs i (i + 1) x at (omega arith) ∙ ap (λ (v : List _). x ∷ v) (between_none xs (suc i) (i + 1) (omega arith)))
-
--- from the back: those down to an index, and the item before it
-pub between_back : {X : Type 0} (xs : List X) (i to : ℕ) (x : X) → slice_get xs (i - 1) ≡ Some x → 0 < i → i ≤ to → reverse (between xs (i - 1) to) ≡ reverse (between xs i to) ++ x ∷ []
-between_back xs i to x at some less =
-    let next : suc (i - 1) ≡ i = omega (arith, some) in
-    ap (λ (v : List _). reverse v) (between_front xs (i - 1) to x at (omega (arith, some, less)) ∙ ap (λ k. x ∷ between xs k to) next)
-    ∙ reverse-append (x ∷ []) (between xs i to)
 
 -- before the end of the last block are all
 pub all_before : {X : Type 0} (blocks : List (List X)) (b : ℕ) (xs : List X) → slice_get blocks b ≡ Some xs → suc b ≡ length blocks → length (joined (take b blocks)) + length xs ≡ length (joined blocks)
