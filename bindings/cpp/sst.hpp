@@ -147,6 +147,82 @@ class table {
         return at;
     }
 
+    /* The entries of a range of keys that are below a number, from both ends, read in batches. It keeps the
+       places of one batch for each end.
+
+           for (auto scan = table.scan("a", "b"); auto entry = scan.next();) use(*entry);
+           for (auto entry : table.scan("a")) use(entry); */
+    class range {
+      public:
+        std::optional<entry> next() { return next(front_, back_, 0); }
+        std::optional<entry> next_back() { return next(back_, front_, 1); }
+
+        /* What is left, from the front; a step takes it from the range. */
+        struct sentinel {};
+        class iterator {
+          public:
+            using iterator_concept = std::input_iterator_tag;
+            using value_type = entry;
+            using difference_type = std::ptrdiff_t;
+            explicit iterator(range *over) : over_(over), held_(over->next()) {}
+            const entry &operator*() const { return *held_; }
+            const entry *operator->() const { return &*held_; }
+            iterator &operator++() { return held_ = over_->next(), *this; }
+            void operator++(int) { ++*this; }
+            bool operator==(sentinel) const { return !held_; }
+
+          private:
+            range *over_;
+            std::optional<entry> held_;
+        };
+        iterator begin() { return iterator(this); }
+        sentinel end() const { return {}; }
+
+      private:
+        friend table;
+        /* The places of a batch that are left, in the order in which it was read. */
+        struct batch {
+            std::vector<sst_place> places;
+            size_t first = 0;
+            size_t left() const { return places.size() - first; }
+        };
+        range(const table *over, sst_window window, std::optional<uint64_t> below, size_t room)
+            : table_(over), window_(window), below_(below), room_(room) {}
+        std::optional<entry> next(batch &near, batch &far, uint8_t reverse) {
+            if (near.left() == 0) fill(near, reverse);
+            if (near.left() > 0) return table_->entry_at(near.places[near.first++]);
+            if (far.left() == 0) return std::nullopt;
+            sst_place last = far.places.back();
+            far.places.pop_back();
+            return table_->entry_at(last);
+        }
+        void fill(batch &near, uint8_t reverse) {
+            size_t count = 0;
+            near.places.resize(room_), near.first = 0;
+            if (uint32_t status = sst_run_scan(table_->run_.data(), table_->run_.size(), &table_->handles_, &window_,
+                                               below_.has_value(), below_.value_or(0), reverse, near.places.data(), room_,
+                                               &count))
+                throw error(status);
+            near.places.resize(count);
+        }
+        const table *table_;
+        sst_window window_;
+        std::optional<uint64_t> below_;
+        size_t room_;
+        batch front_, back_;
+    };
+
+    /* The entries with keys from one on up to before another, with numbers strictly below one, where these are
+       given, in batches of `batch`, at least 1. */
+    range scan(std::optional<bytes> from = {}, std::optional<bytes> to = {}, std::optional<uint64_t> below = {},
+               size_t batch = 64) const {
+        sst_window window;
+        bytes start = from.value_or(bytes("")), stop = to.value_or(bytes(""));
+        sst_run_range(run_.data(), run_.size(), &handles_, from.has_value(), start.lent(), start.size(), to.has_value(),
+                      stop.lent(), stop.size(), &window);
+        return {this, window, below, batch};
+    }
+
   private:
     explicit table(bytes file) {
         if (uint32_t status = sst_footer_read(file.lent(), file.size(), &handles_)) throw error(status);

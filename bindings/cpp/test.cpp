@@ -64,6 +64,30 @@ template <class Call> bool throws(uint32_t status, Call call) {
     return false;
 }
 
+/* Scans a range from the front, from the back, and from both ends in turn, in batches of so many. */
+void check_scan(const sst::table &table, const std::vector<row> &rows, const std::string &from, const std::string &to,
+                std::optional<uint64_t> below, size_t batch) {
+    std::vector<row> within, fronts, backs;
+    for (const row &r : rows)
+        if (r.key >= from && r.key < to && (!below || r.seqno < *below)) within.push_back(r);
+    size_t next = 0;
+    for (const sst::entry &entry : table.scan(from, to, below, batch))
+        demand(next < within.size() && is(entry, within[next++]), "a scan gives the next entry");
+    demand(next == within.size(), "a scan gives all entries");
+    size_t left = within.size();
+    for (auto scan = table.scan(from, to, below, batch); auto entry = scan.next_back();)
+        demand(left > 0 && is(*entry, within[--left]), "a scan from the back gives the last entry");
+    demand(left == 0, "a scan from the back gives all entries");
+    auto scan = table.scan(from, to, below, batch);
+    size_t first = 0, last = within.size();
+    while (first < last) {
+        auto entry = (first + last) % 2 ? scan.next() : scan.next_back();
+        demand(entry && is(*entry, within[(first + last) % 2 ? first : last - 1]), "a scan from both ends");
+        (first + last) % 2 ? ++first : --last;
+    }
+    demand(!scan.next() && !scan.next_back(), "and nothing behind");
+}
+
 void check_table(const sst::table &table, const std::vector<row> &rows) {
     demand(std::ranges::equal(table, rows, is), "a walk gives all entries");
     demand(std::equal(table.rbegin(), table.rend(), rows.rbegin(), rows.rend(), is), "a walk back gives all entries");
@@ -73,9 +97,11 @@ void check_table(const sst::table &table, const std::vector<row> &rows) {
         auto newest = std::ranges::find_if(rows, [&](const row &r) { return r.key == rows[i].key && r.seqno < 25; });
         auto found = table.get(rows[i].key, 25);
         demand(newest == rows.end() ? !found : found && is(*found, *newest), "the newest version below a number");
+        check_scan(table, rows, rows[i].key, rows[i * 7 % rows.size()].key, i % 2 ? std::optional<uint64_t>(25) : std::nullopt, 1 + i % 9);
     }
     demand(table.lower_bound("zz") == table.end() && !table.get("zz"), "nothing above the last key");
     demand(std::equal(table.lower_bound(""), table.end(), rows.begin(), rows.end(), is), "all from the empty key on");
+    check_scan(table, rows, "", "\xff", {}, 64);
 }
 } // namespace
 

@@ -81,6 +81,10 @@ class _Handles(ctypes.Structure):
                 ("index_size", ctypes.c_uint32), ("filter_size", ctypes.c_uint32)]
 
 
+class _Window(ctypes.Structure):
+    _fields_ = [(f"{end}_{what}", ctypes.c_size_t) for end in ("first", "end") for what in ("block", "index")]
+
+
 class _Summary(ctypes.Structure):
     _fields_ = [("blocks", ctypes.c_size_t), ("entries", ctypes.c_uint64), ("least_seqno", ctypes.c_uint64),
                 ("greatest_seqno", ctypes.c_uint64)]
@@ -102,7 +106,10 @@ def _load():
             ("sst_run_check", ctypes.c_uint32, [address, size, handles, ctypes.POINTER(_Summary)]),
             ("sst_run_get", ctypes.c_uint32, [address, size, handles, ctypes.c_char_p, size, ctypes.c_uint64, place]),
             ("sst_run_block_count", size, [address, size, handles]),
-            ("sst_run_seek", size, [address, size, handles, ctypes.c_char_p, size]),
+            ("sst_run_range", None, [address, size, handles, ctypes.c_uint8, ctypes.c_char_p, size, ctypes.c_uint8,
+                                     ctypes.c_char_p, size, ctypes.POINTER(_Window)]),
+            ("sst_run_scan", ctypes.c_uint32, [address, size, handles, ctypes.POINTER(_Window), ctypes.c_uint8,
+                                               ctypes.c_uint64, ctypes.c_uint8, place, size, count]),
             ("sst_run_block_entries", ctypes.c_uint32, [address, size, handles, size, place, size, count]),
             ("sst_run_write", ctypes.c_uint32,
              [ctypes.POINTER(_Entry), size, count, size, ctypes.POINTER(_Config), address, size, count, handles])):
@@ -188,19 +195,20 @@ class Table:
         _demand(status)
         return [self._entry(at) for at in places]
 
-    def scan(self, start=b"", end=None, reverse=False):
-        """The entries of the keys from `start` on, up to and without `end` (None: to the last): by key
-        rising and then by sequence number falling, all versions, tombstones too; or backwards."""
-        first = _LIB.sst_run_seek(*self._run, start, len(start))
-        last = self.summary.blocks
-        if end is not None:
-            last = min(last, _LIB.sst_run_seek(*self._run, end, len(end)) + 1)
-        blocks = range(first, last)
-        for index in reversed(blocks) if reverse else blocks:
-            entries = self.block(index)
-            for entry in reversed(entries) if reverse else entries:
-                if start <= entry.key and (end is None or entry.key < end):
-                    yield entry
+    def scan(self, start=b"", end=None, reverse=False, below=None, batch=64):
+        """The entries of the keys from `start` on, up to and without `end` (None: to the last), with numbers
+        strictly below `below` (None: all): by key rising and then by sequence number falling, all versions, tombstones
+        too; or backwards. They are read in batches of so many."""
+        window, count, places = _Window(), ctypes.c_size_t(), (_Place * batch)()
+        to = b"" if end is None else end
+        _LIB.sst_run_range(*self._run, True, start, len(start), end is not None, to, len(to), ctypes.byref(window))
+        while True:
+            _demand(_LIB.sst_run_scan(*self._run, ctypes.byref(window), below is not None, below or 0, reverse,
+                                      places, batch, ctypes.byref(count)))
+            if count.value == 0:
+                return
+            for at in places[:count.value]:
+                yield self._entry(at)
 
     def __iter__(self):
         return self.scan()

@@ -50,6 +50,9 @@ class Tables(unittest.TestCase):
                 within = [e for e in entries if low <= e.key < high]
                 self.assertEqual(list(table.scan(low, high)), within)
                 self.assertEqual(list(table.scan(low, high, reverse=True)), within[::-1])
+                below = [e for e in within if e.seqno < 500]
+                self.assertEqual(list(table.scan(low, high, below=500, batch=1)), below)
+                self.assertEqual(list(table.scan(low, high, reverse=True, below=500, batch=3)), below[::-1])
                 newest = next((e for e in entries if e.key == low and e.seqno < 500), None)
                 self.assertEqual(table.get(low, below=500), newest)
 

@@ -236,6 +236,43 @@ size_t sst_run_seek(const uint8_t *run, size_t len, const struct sst_run_handles
 uint32_t sst_run_block_entries(const uint8_t *run, size_t len, const struct sst_run_handles *handles,
                                size_t block, struct sst_place *places, size_t cap, size_t *count);
 
+/* What a scan of a run has left: the entries from a first place on up to, not including, an end. A place is
+   the index of a block, and the index of an entry in it, or the number of its entries for the block's end.
+   All entries of a run of n blocks: from 0, 0 up to n - 1 and the number of entries of that block, which
+   is what sst_run_range says without bounds. */
+struct sst_window {
+    size_t first_block, first_index;
+    size_t end_block, end_index;
+};
+
+/* The entries of a run, as for sst_run_get, with keys in a range: from a key on, if has_from is not 0, and up
+   to before another, if has_to is not 0. Where no key is in the range, the window is empty. Takes no
+   memory. */
+void sst_run_range(const uint8_t *run, size_t len, const struct sst_run_handles *handles, uint8_t has_from,
+                   const uint8_t *from, size_t from_len, uint8_t has_to, const uint8_t *to, size_t to_len,
+                   struct sst_window *window);
+
+/* Writes where the next entries of a window of a run are, if has_below is not 0 of those with a sequence number
+   strictly below one: the first ones that are left in order, or, where reverse is not 0, the last ones, the
+   last first. The run is as for sst_run_get, and the offsets are those in the run. That end of the window is
+   moved over the entries that the call went past, and the other one stays, so the calls with a window, from
+   either end in any mixture, list each of its entries once.
+   SST_OK: the first *count places are written: all of them, or fewer where nothing is left then; so *count
+   is 0 exactly if no such entry was left, or cap is 0. The places after them are left.
+   SST_BAD_ARGUMENT: exactly if the window is none of the run's: it has no such block, the block has fewer
+   entries than an index, or the first place is after the end; then nothing is written. Takes no memory. A
+   call decodes from a block the entries that it goes past, and before them at most those of a restart
+   interval; from the back the latter again for each restart interval that it lists in part. */
+uint32_t sst_run_scan(const uint8_t *run, size_t len, const struct sst_run_handles *handles,
+                      struct sst_window *window, uint8_t has_below, uint64_t below_seqno, uint8_t reverse,
+                      struct sst_place *places, size_t cap, size_t *count);
+
+/* The same of a data block, as of a run that has this one block: both blocks of the window are 0, and the
+   offsets are those in the block. The bytes are as for sst_data_block_find. */
+uint32_t sst_data_block_scan(const uint8_t *payload, size_t len, struct sst_window *window, uint8_t has_below,
+                             uint64_t below_seqno, uint8_t reverse, struct sst_place *places, size_t cap,
+                             size_t *count);
+
 /* Reads where index and filter are in the run of a table file, from its last 24 bytes; the run is the bytes
    before these. SST_OK: *handles tells it. SST_TRUNCATED: exactly if there are fewer than 24 bytes, and
    *handles is left. Takes no memory. */

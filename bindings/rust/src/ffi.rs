@@ -68,6 +68,15 @@ pub struct RunHandles {
 }
 
 #[repr(C)]
+#[derive(Clone, Copy, Default)]
+pub struct Window {
+    pub first_block: usize,
+    pub first_index: usize,
+    pub end_block: usize,
+    pub end_index: usize,
+}
+
+#[repr(C)]
 #[derive(Default)]
 pub struct Summary {
     pub blocks: usize,
@@ -116,13 +125,13 @@ extern "C" {
         run: *const u8, len: usize, handles: *const RunHandles, key: *const u8, key_len: usize, below: u64,
         place: *mut Place,
     ) -> c_uint;
-    pub fn sst_run_block_count(run: *const u8, len: usize, handles: *const RunHandles) -> usize;
-    pub fn sst_run_seek(
-        run: *const u8, len: usize, handles: *const RunHandles, key: *const u8, key_len: usize,
-    ) -> usize;
-    pub fn sst_run_block_entries(
-        run: *const u8, len: usize, handles: *const RunHandles, block: usize, places: *mut Place, cap: usize,
-        count: *mut usize,
+    pub fn sst_run_range(
+        run: *const u8, len: usize, handles: *const RunHandles, has_from: u8, from: *const u8, from_len: usize,
+        has_to: u8, to: *const u8, to_len: usize, window: *mut Window,
+    );
+    pub fn sst_run_scan(
+        run: *const u8, len: usize, handles: *const RunHandles, window: *mut Window, has_below: u8, below: u64,
+        reverse: u8, places: *mut Place, cap: usize, count: *mut usize,
     ) -> c_uint;
     pub fn sst_footer_read(file: *const u8, len: usize, handles: *mut RunHandles) -> c_uint;
     pub fn sst_footer_write(

@@ -1,6 +1,6 @@
 //! Table files.
 use crate::{Block, BlockHandle, BlockType, DataBlock, IndexBlock, KeyedBlockHandle, build_filter};
-use crate::{Entry, Error, Iter, Result, SeqNo, ValueType, demand, ffi, given};
+use crate::{Entry, Error, Result, SeqNo, ValueType, demand, ffi, given};
 use std::ops::{Bound, RangeBounds};
 
 const FOOTER_LEN: usize = 24;
@@ -230,20 +230,19 @@ pub struct Summary {
 pub struct Table<'a> {
     run: &'a [u8],
     handles: ffi::RunHandles,
-    blocks: usize,
 }
 
 impl<'a> Table<'a> {
     fn open(file: &'a [u8]) -> Result<Table<'a>> {
         let mut handles = ffi::RunHandles::default();
         demand(unsafe { ffi::sst_footer_read(file.as_ptr(), file.len(), &mut handles) })?;
-        Ok(Table { run: &file[..file.len() - FOOTER_LEN], handles, blocks: 0 })
+        Ok(Table { run: &file[..file.len() - FOOTER_LEN], handles })
     }
 
     /// Checks all bytes of a file, as [`Table::verify`] does.
     pub fn check(file: &'a [u8]) -> Result<Table<'a>> {
-        let mut table = Table::open(file)?;
-        table.blocks = table.verify()?.blocks;
+        let table = Table::open(file)?;
+        table.verify()?;
         Ok(table)
     }
 
@@ -253,9 +252,7 @@ impl<'a> Table<'a> {
     ///
     /// [`Table::check`] accepted the file, or [`write_table`] or the library wrote it.
     pub unsafe fn trusted(file: &'a [u8]) -> Result<Table<'a>> {
-        let mut table = Table::open(file)?;
-        table.blocks = ffi::sst_run_block_count(table.run.as_ptr(), table.run.len(), &table.handles);
-        Ok(table)
+        Table::open(file)
     }
 
     /// Checks all bytes again, and returns what was counted. Refuses by what is met first.
@@ -287,76 +284,71 @@ impl<'a> Table<'a> {
     /// Returns an iterator over the entries of a range of keys, from both ends: all versions, tombstones
     /// too.
     pub fn range<K: AsRef<[u8]> + ?Sized, R: RangeBounds<K>>(&self, keys: R) -> Range<'a> {
-        let own = |bound: Bound<&K>| match bound {
-            Bound::Included(key) => Bound::Included(key.as_ref().to_vec()),
-            Bound::Excluded(key) => Bound::Excluded(key.as_ref().to_vec()),
-            Bound::Unbounded => Bound::Unbounded,
-        };
-        let (from, to) = (own(keys.start_bound()), own(keys.end_bound()));
-        let lo = match &from {
-            Bound::Unbounded => 0,
-            Bound::Included(key) | Bound::Excluded(key) => self.seek(key),
-        };
-        // An included end may go on in the blocks behind, with further versions of its key.
-        let hi = match &to {
-            Bound::Excluded(key) => self.blocks.min(self.seek(key) + 1),
-            Bound::Included(_) | Bound::Unbounded => self.blocks,
-        };
-        Range { table: *self, from, to, lo, hi: hi.max(lo), front: None, back: None }
+        self.range_under(keys, None)
     }
 
-    fn seek(&self, key: &[u8]) -> usize {
+    /// Returns an iterator over the entries of a range of keys with sequence numbers strictly below one.
+    pub fn range_below<K: AsRef<[u8]> + ?Sized, R: RangeBounds<K>>(&self, keys: R, seqno: SeqNo) -> Range<'a> {
+        self.range_under(keys, Some(seqno))
+    }
+
+    fn range_under<K: AsRef<[u8]> + ?Sized, R: RangeBounds<K>>(&self, keys: R, seqno: Option<SeqNo>) -> Range<'a> {
+        // The least key above another is that with a byte 0 more.
+        let above = |key: &K| [key.as_ref(), &[0]].concat();
+        let from = match keys.start_bound() {
+            Bound::Included(key) => Some(key.as_ref().to_vec()),
+            Bound::Excluded(key) => Some(above(key)),
+            Bound::Unbounded => None,
+        };
+        let to = match keys.end_bound() {
+            Bound::Included(key) => Some(above(key)),
+            Bound::Excluded(key) => Some(key.as_ref().to_vec()),
+            Bound::Unbounded => None,
+        };
+        let (mut window, none) = (ffi::Window::default(), Vec::new());
+        let (start, end) = (from.as_ref().unwrap_or(&none), to.as_ref().unwrap_or(&none));
         unsafe {
-            ffi::sst_run_seek(self.run.as_ptr(), self.run.len(), &self.handles, key.as_ptr(), key.len())
-        }
-    }
-
-    fn block(&self, index: usize) -> Iter<'a> {
-        let (mut places, mut count) = (Vec::<ffi::Place>::with_capacity(128), 0);
-        loop {
-            let status = unsafe {
-                ffi::sst_run_block_entries(
-                    self.run.as_ptr(), self.run.len(), &self.handles, index, places.as_mut_ptr(),
-                    places.capacity(), &mut count,
-                )
-            };
-            if status != ffi::NO_ROOM {
-                // The call wrote so many places; it leaves 0 where there is no such block.
-                unsafe { places.set_len(count) };
-                return Iter::over(self.run, places);
-            }
-            places.reserve_exact(count);
-        }
+            ffi::sst_run_range(
+                self.run.as_ptr(), self.run.len(), &self.handles, from.is_some().into(), start.as_ptr(), start.len(),
+                to.is_some().into(), end.as_ptr(), end.len(), &mut window,
+            )
+        };
+        Range { table: *self, window, seqno, front: Vec::new().into_iter(), back: Vec::new().into_iter() }
     }
 }
 
-/// An iterator over the entries of a range of keys. It keeps the places of a block for each end.
+/// The number of places that are read at once.
+const BATCH: usize = 64;
+
+/// An iterator over the entries of a range of keys. It keeps the places of a batch for each end.
 pub struct Range<'a> {
     table: Table<'a>,
-    from: Bound<Vec<u8>>,
-    to: Bound<Vec<u8>>,
-    // The blocks that no end has opened.
-    lo: usize,
-    hi: usize,
-    front: Option<Iter<'a>>,
-    back: Option<Iter<'a>>,
+    window: ffi::Window,
+    seqno: Option<SeqNo>,
+    // What is left of the last batch from each end, in the order in which it was read.
+    front: std::vec::IntoIter<ffi::Place>,
+    back: std::vec::IntoIter<ffi::Place>,
 }
 
 impl<'a> Range<'a> {
-    // The entries of a block in the range.
-    fn open(&self, index: usize) -> Iter<'a> {
-        let mut block = self.table.block(index);
-        match &self.from {
-            Bound::Included(key) => drop(block.seek(key)),
-            Bound::Excluded(key) => drop(block.seek_exclusive(key)),
-            Bound::Unbounded => (),
-        }
-        match &self.to {
-            Bound::Included(key) => drop(block.seek_upper(key)),
-            Bound::Excluded(key) => drop(block.seek_upper_exclusive(key)),
-            Bound::Unbounded => (),
-        }
-        block
+    // The next batch from an end.
+    fn batch(&mut self, reverse: bool) -> std::vec::IntoIter<ffi::Place> {
+        let (mut places, mut count) = (Vec::<ffi::Place>::with_capacity(BATCH), 0);
+        let status = unsafe {
+            ffi::sst_run_scan(
+                self.table.run.as_ptr(), self.table.run.len(), &self.table.handles, &mut self.window,
+                self.seqno.is_some().into(), self.seqno.unwrap_or(0), reverse.into(), places.as_mut_ptr(), BATCH,
+                &mut count,
+            )
+        };
+        debug_assert_eq!(status, 0);
+        // The call wrote so many places; of a window that is none of the run's it writes none.
+        unsafe { places.set_len(count) };
+        places.into_iter()
+    }
+
+    fn entry(&self, at: &ffi::Place) -> Entry<'a> {
+        Entry::at(self.table.run, at)
     }
 }
 
@@ -364,30 +356,20 @@ impl<'a> Iterator for Range<'a> {
     type Item = Entry<'a>;
 
     fn next(&mut self) -> Option<Entry<'a>> {
-        loop {
-            if let Some(entry) = self.front.as_mut().and_then(Iter::next) {
-                return Some(entry);
-            }
-            if self.lo == self.hi {
-                return self.back.as_mut()?.next();
-            }
-            self.front = Some(self.open(self.lo));
-            self.lo += 1;
+        if self.front.len() == 0 {
+            self.front = self.batch(false);
         }
+        let at = self.front.next().or_else(|| self.back.next_back())?;
+        Some(self.entry(&at))
     }
 }
 
 impl DoubleEndedIterator for Range<'_> {
     fn next_back(&mut self) -> Option<Self::Item> {
-        loop {
-            if let Some(entry) = self.back.as_mut().and_then(Iter::next_back) {
-                return Some(entry);
-            }
-            if self.lo == self.hi {
-                return self.front.as_mut()?.next_back();
-            }
-            self.hi -= 1;
-            self.back = Some(self.open(self.hi));
+        if self.back.len() == 0 {
+            self.back = self.batch(true);
         }
+        let at = self.back.next().or_else(|| self.front.next_back())?;
+        Some(self.entry(&at))
     }
 }

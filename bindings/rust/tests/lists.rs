@@ -124,6 +124,9 @@ fn tables_are_their_lists() {
                     }
                     fronts.extend(backs.into_iter().rev());
                     assert_eq!(fronts, within);
+                    let below: Vec<_> = within.iter().copied().filter(|e| e.seqno < 25).collect();
+                    assert!(table.range_below::<Vec<u8>, _>((from, to), 25).eq(below.iter().copied()));
+                    assert!(table.range_below::<Vec<u8>, _>((from, to), 25).rev().eq(below.into_iter().rev()));
                 }
             }
         }

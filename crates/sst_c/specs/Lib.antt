@@ -9,3 +9,6 @@ pub mod Index
 pub mod RunBlocks
 pub mod Runs
 pub mod Listing
+pub mod Windows
+pub mod Batches
+pub mod Ranges

@@ -4,6 +4,7 @@
 //! kept between calls, so any thread may call. A call returns a code: see [`codes`].
 #![tactic(auto)]
 
+pub mod block_scan;
 pub mod codes;
 pub mod data_block;
 pub mod entries;
@@ -15,4 +16,7 @@ pub mod index_block;
 mod output;
 pub mod run;
 pub mod run_blocks;
+pub mod run_range;
+pub mod run_scan;
 pub mod version;
+pub mod window;

@@ -18,9 +18,9 @@ use sstable_blocks::table::block::bound::Bound;
 use sstable_blocks::table::index_block::IndexBlockRef;
 use sstable_blocks::{BlockHandle, RunHandles, Steps};
 
-// The index of a sound run.
+/// The index of a sound run.
 #[tactic(auto, using(sstable_blocks::specs::RunLaws::payload_fits))]
-fn index_of<'a>(bytes: &'a [u8], handles: &RunHandles) -> IndexBlockRef<'a>
+pub(crate) fn index_of<'a>(bytes: &'a [u8], handles: &RunHandles) -> IndexBlockRef<'a>
     requires { IsSoundRun run_hashes bytes.now handles.now }
     ensures { result.items ≡ index_in bytes.now handles.now.index }
 {

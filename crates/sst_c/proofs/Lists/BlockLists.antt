@@ -8,7 +8,7 @@ use Rattle.sstable_blocks.specs.BlockLaws.{handle_range}
 use Rattle.sstable_blocks.specs.Opened.{IsOpen, Opened, index_in}
 use Rattle.sstable_blocks.specs.declared.run.RunHandles.{RunHandles}
 
-some_range : (x : Option Handle) (k : HandleParts) → option_map handle_range x ≡ Some k → (g : Handle) × (x ≡ Some g) × (handle_range g ≡ k)
+pub some_range : (x : Option Handle) (k : HandleParts) → option_map handle_range x ≡ Some k → (g : Handle) × (x ≡ Some g) × (handle_range g ≡ k)
 some_range None k e = cc
 some_range (Some g) k e = (g, refl, cc)
 

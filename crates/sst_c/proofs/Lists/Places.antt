@@ -1,6 +1,6 @@
 -- Places in bytes, by those in a part of them, such as the payload of a run's block.
 use Rattle.std.proofs.Common.{◌≡◌, ℕ, ◌+◌, ◌-◌, ◌≤◌, ◌<◌, Option, Some, None, IfSome, List, ◌++◌, length, take, drop, arith, sym, ◌∙◌, ap}
-use Rattle.std.proofs.lemmas.List.{drop-drop, drop-take, length-drop, length-take, length-take-le, take-take}
+use Rattle.std.proofs.lemmas.List.{drop-drop, drop-take, length-drop, length-take-le, take-take}
 use Rattle.sstable_blocks.specs.Prelude.{HandleParts, Entry}
 use Rattle.sstable_blocks.specs.Opened.{IsFrameRange, payload_in}
 use Rattle.sst_c.specs.Blocks.{bytes_behind, IsPartAt, IsPlaceOf}

@@ -1,4 +1,4 @@
-use Rattle.std.proofs.Common.{◌≡◌, ◌∙◌, arith, refl, sym, subst, ap, length, List, Option, None}
+use Rattle.std.proofs.Common.{◌≡◌, arith, refl, sym, subst, ap, length, List, Option, None}
 use Rattle.std.specs.Prelude.{slice_get}
 use Rattle.std.proofs.lemmas.Option.{slice_get_past}
 use Rattle.sstable_blocks.specs.Prelude.{Entry, Handle}

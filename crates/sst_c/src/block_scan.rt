@@ -1,0 +1,79 @@
+//! Scans of data blocks from both ends, by batches, as those of a run of one block.
+ghost use Rattle.std.specs.Prelude.{◌≡◌, ◌↔◌, IsTrue, [], ◌∷◌, nat_lt};
+ghost use Rattle.sst_c.specs.Batches.{IsScan, number_given};
+ghost use Rattle.sst_c.specs.Blocks.{IsDataBlock};
+ghost use Rattle.sst_c.specs.Codes.{code_of};
+ghost use Rattle.sst_c.specs.declared.codes.Status.{Status};
+ghost use Rattle.sst_c.specs.Windows.{IsWindowIn};
+ghost use Rattle.sstable_blocks.specs.Prelude.{entries, items_in};
+
+use crate::codes::Status;
+use crate::data_block::SstPlace;
+use crate::run_scan::{number_of, pass_back, pass_front};
+use crate::window::{RunBlock, SstWindow};
+use sstable_blocks::SeqNo;
+use sstable_blocks::table::data_block::DataBlockRef;
+
+// Whether numbers are a window of one block of so many entries.
+fn is_window_in(window: &SstWindow, len: usize) -> bool
+    ensures { IsTrue result ↔ IsWindowIn len window.now }
+{
+    window.first_block == 0
+        && window.end_block == 0
+        && window.first_index <= window.end_index
+        && window.end_index <= len
+}
+
+// Lists the next entries of a window of a block that are below a number, if it is one.
+fn scan(
+    payload: &[u8],
+    window: &mut SstWindow,
+    below: Option<SeqNo>,
+    back: bool,
+    places: &mut [SstPlace],
+    count: &mut usize,
+) -> Status
+    requires { IsDataBlock payload.now }
+    ensures { IsScan payload.now (items_in entries payload.now ∷ []) below back window.old
+        window.new places.old places.new count.old count.new result }
+{
+    let part = RunBlock {
+        start: 0,
+        block: DataBlockRef::new(payload),
+    };
+    if !is_window_in(window, part.block.len()) {
+        return Status::BadArgument;
+    }
+    *count = 0;
+    if back {
+        let first = window.first_index;
+        pass_back(payload, &part, window, first, below, places, count);
+        return Status::Done;
+    }
+    let end = window.end_index;
+    pass_front(payload, &part, window, end, below, places, count);
+    Status::Done
+}
+
+/// Lists the next entries of a window of a data block, as
+/// [`sst_run_scan`](crate::run_scan::sst_run_scan) does of a run that has this one block: both
+/// places of the window are in block 0. The bytes are known to be a data block as for
+/// [`sst_data_block_find`](crate::data_block::sst_data_block_find).
+#[unsafe(no_mangle)]
+pub extern "C" fn sst_data_block_scan(
+    payload: &[u8],
+    window: &mut SstWindow,
+    has_below: u8,
+    below_seqno: u64,
+    reverse: u8,
+    places: &mut [SstPlace],
+    count: &mut usize,
+) -> u32
+    requires { IsDataBlock payload.now }
+    ensures { (s : Status) × (result ≡ code_of s)
+        × IsScan payload.now (items_in entries payload.now ∷ []) (number_given has_below below_seqno)
+        (nat_lt 0 reverse) window.old window.new places.old places.new count.old count.new s }
+{
+    let below = number_of(has_below, below_seqno);
+    scan(payload, window, below, reverse > 0, places, count).code()
+}

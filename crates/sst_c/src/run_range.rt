@@ -1,0 +1,156 @@
+//! Windows of the entries of a run with keys in a range.
+ghost use Rattle.std.specs.Prelude.{◌≡◌, List, length};
+ghost use Rattle.std.specs.declared.ops.Bound.TheVariants.{Included};
+ghost use Rattle.sst_c.specs.Ranges.{IsWindowOf, before_key, from_key, key_given, keys_between};
+ghost use Rattle.sst_c.specs.Runs.{handles_given, run_hashes};
+ghost use Rattle.sst_c.specs.Windows.{IsPlaceIn, IsWindow, blocks_in, count_before, left_in};
+ghost use Rattle.sstable_blocks.specs.Prelude.{Entry, entries, items_left};
+ghost use Rattle.sstable_blocks.specs.Blocks.{joined};
+ghost use Rattle.sstable_blocks.specs.RisingLaws.{counted};
+ghost use Rattle.sstable_blocks.specs.Scans.{is_before, is_up_to};
+ghost use Rattle.sstable_blocks.specs.Sound.{ForSound, IsSoundRun};
+
+use crate::run::{SstRunHandles, run_handles};
+use crate::run_blocks::index_of;
+use crate::window::{RunBlock, SstWindow, block_at, is_uncrossed};
+use sst_block_core::laws::index_block_is_read;
+use sst_block_core::table::block::intervals::Intervals;
+use sstable_blocks::run::laws::sound_opens;
+use sstable_blocks::table::block::bound::Bound;
+use sstable_blocks::table::data_block::DataBlockParsedItem;
+use sstable_blocks::{InternalValue, RunHandles, Steps};
+
+// A place of a run: a block, and the index of an entry in it, or the end of the block.
+#[derive(Drop)]
+struct Place {
+    block: usize,
+    index: usize,
+}
+
+// The end of a run: that of its last block.
+fn end_of(bytes: &[u8], handles: &RunHandles) -> Place
+    requires { IsSoundRun run_hashes bytes.now handles.now }
+    ensures place { IsPlaceIn (blocks_in bytes.now handles.now) result.block result.index }
+    ensures all { count_before (blocks_in bytes.now handles.now) result.block result.index
+        ≡ length (joined (blocks_in bytes.now handles.now)) }
+{
+    let block = index_of(bytes, handles).len() - 1;
+    Place {
+        block,
+        index: block_at(bytes, handles, block).block.len(),
+    }
+}
+
+// How many entries of a block are before a key.
+fn keys_before(part: &RunBlock<'_>, key: &[u8]) -> usize
+    ensures { result ≡ counted entries.key (is_before (Included key.now)) part.now.block.items }
+{
+    Intervals::<InternalValue, DataBlockParsedItem>::new(part.block.as_slice()).position(
+        &Bound::below(key),
+    )
+}
+
+// The place of the first entry of a run whose key is not below one.
+fn place_of(bytes: &[u8], handles: &RunHandles, key: &[u8]) -> Place
+    requires { IsSoundRun run_hashes bytes.now handles.now }
+    ensures place { IsPlaceIn (blocks_in bytes.now handles.now) result.block result.index }
+    ensures before { count_before (blocks_in bytes.now handles.now) result.block result.index
+        ≡ counted entries.key (is_before (Included key.now))
+        (joined (blocks_in bytes.now handles.now)) }
+{
+    sound_opens();
+    index_block_is_read();
+    let index = index_of(bytes, handles);
+    let block = index.position(&Bound::below(key), &mut Steps::new());
+    if block >= index.len() {
+        return end_of(bytes, handles);
+    }
+    Place {
+        block,
+        index: keys_before(&block_at(bytes, handles, block), key),
+    }
+}
+
+// The place where a range begins: that of its first key, or the start of the run.
+fn first_of(bytes: &[u8], handles: &RunHandles, has: u8, from: &[u8]) -> Place
+    requires { IsSoundRun run_hashes bytes.now handles.now }
+    ensures place { IsPlaceIn (blocks_in bytes.now handles.now) result.block result.index }
+    ensures before { count_before (blocks_in bytes.now handles.now) result.block result.index
+        ≡ counted entries.key (is_before (from_key (key_given has from.now)))
+        (joined (blocks_in bytes.now handles.now)) }
+{
+    if has == 0 {
+        // A run has a block.
+        let _end = end_of(bytes, handles);
+        return Place { block: 0, index: 0 };
+    }
+    place_of(bytes, handles, from)
+}
+
+// The place where a range ends: that of the key before which it does, or the end of the run.
+fn last_of(bytes: &[u8], handles: &RunHandles, has: u8, to: &[u8]) -> Place
+    requires { IsSoundRun run_hashes bytes.now handles.now }
+    ensures place { IsPlaceIn (blocks_in bytes.now handles.now) result.block result.index }
+    ensures before { count_before (blocks_in bytes.now handles.now) result.block result.index
+        ≡ counted entries.key (is_up_to (before_key (key_given has to.now)))
+        (joined (blocks_in bytes.now handles.now)) }
+{
+    if has == 0 {
+        return end_of(bytes, handles);
+    }
+    place_of(bytes, handles, to)
+}
+
+// The window between two places. It is empty where the end is before the first.
+fn window_between(first: &Place, end: &Place) -> SstWindow
+    ensures window { (blocks : List (List Entry)) → IsPlaceIn blocks first.now.block first.now.index
+        → IsPlaceIn blocks end.now.block end.now.index → IsWindow blocks result }
+    ensures left { (blocks : List (List Entry)) → IsPlaceIn blocks first.now.block first.now.index
+        → IsPlaceIn blocks end.now.block end.now.index
+        → left_in blocks result ≡ items_left (record {
+          list = joined blocks;
+          lo = count_before blocks first.now.block first.now.index;
+          hi = count_before blocks end.now.block end.now.index;
+        }) }
+{
+    let window = SstWindow {
+        first_block: first.block,
+        first_index: first.index,
+        end_block: end.block,
+        end_index: end.index,
+    };
+    if !is_uncrossed(&window) {
+        return SstWindow {
+            first_block: first.block,
+            first_index: first.index,
+            end_block: first.block,
+            end_index: first.index,
+        };
+    }
+    window
+}
+
+/// Writes the window of the entries of a run with keys in a range: from a key on, if `has_from` is
+/// not 0, and up to before another, if `has_to` is not 0. The run is as for
+/// [`sst_run_block_count`](crate::run_blocks::sst_run_block_count). The window is empty where no
+/// key is in the range. No memory is taken.
+#[unsafe(no_mangle)]
+pub extern "C" fn sst_run_range(
+    bytes: &[u8],
+    handles: &SstRunHandles,
+    has_from: u8,
+    from: &[u8],
+    has_to: u8,
+    to: &[u8],
+    window: &mut SstWindow,
+)
+    requires { IsSoundRun run_hashes bytes.now (handles_given handles.now) }
+    ensures { ForSound run_hashes bytes.now (handles_given handles.now) (λ blocks. IsWindowOf blocks
+        (keys_between (key_given has_from from.now) (key_given has_to to.now)) window.new) }
+{
+    sound_opens();
+    let handles = run_handles(handles);
+    let first = first_of(bytes, &handles, has_from, from);
+    let end = last_of(bytes, &handles, has_to, to);
+    *window = window_between(&first, &end);
+}
