@@ -14,7 +14,7 @@ use crate::codes::Status;
 use crate::data_block::{SstPlace, place_at};
 use crate::run::{SstRunHandles, run_handles};
 use crate::window::{RunBlock, SstWindow, block_at, is_window};
-use sst_block_core::laws::data_block_is_read;
+use sstable_blocks::laws::data_block_is_read;
 use sstable_blocks::run::laws::sound_opens;
 use sstable_blocks::table::block::Trailer;
 use sstable_blocks::table::data_block::{DataBlockParsedItem, Iter};

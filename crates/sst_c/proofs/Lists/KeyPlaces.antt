@@ -7,7 +7,7 @@ use Rattle.std.specs.declared.ops.Bound.TheVariants.{Included}
 use Rattle.std.proofs.lemmas.Bool.{cases_Bool, ne_eqb}
 use Rattle.std.proofs.lemmas.List.{map-append}
 use Rattle.xxh3.specs.Xxh3.{xxh3_64}
-use Rattle.sst_base.specs.declared.table.block.block_type.BlockType.TheVariants as types
+use Rattle.sstable_blocks.specs.BlockTypes as types
 use Rattle.sstable_blocks.specs.Prelude.{Entry, Handle, IsIndexBlock, IsOrdered, KeyRange, entries, handles, items_in, items_left, plain}
 use Rattle.sstable_blocks.specs.Blocks.{joined}
 use Rattle.sstable_blocks.specs.BoundLaws.{joined_plain, plain_ordered}

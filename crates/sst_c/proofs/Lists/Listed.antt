@@ -36,17 +36,6 @@ lists_none bytes below old count room = record {
   kept = refl;
 }
 
--- an entry that is not below the number is not listed
-pub lists_not : (bytes : List ℕ) (below : Option ℕ) (e : Entry) (old : List SstPlace) (count : ℕ) → is_under below e.key.seqno ≡ false → count ≤ length old → Lists bytes below (e ∷ []) old old count count
-lists_not bytes below e old count not room =
-    let hidden : visible below (e ∷ []) ≡ [] = ap (λ b. cond b (e ∷ []) []) not in
-    record {
-      more = λ start before len are. subst (λ xs. AreListed bytes (before ++ xs) start old) (sym hidden) (subst (λ xs. AreListed bytes xs start old) (sym (append-nil before)) are);
-      count = omega (arith, ap (λ (xs : List Entry). length xs) hidden);
-      room = room;
-      kept = refl;
-    }
-
 -- an entry that is below the number has its place behind the others
 pub lists_one : (bytes : List ℕ) (below : Option ℕ) (e : Entry) (old : List SstPlace) (count : ℕ) (f : SstPlace) → is_under below e.key.seqno ≡ true → count < length old → IsPlaceOf bytes f e
     → Lists bytes below (e ∷ []) old (set old count f) count (count + 1)

@@ -39,10 +39,7 @@ blocks_count bytes h = length-map (index_in bytes h.index) (λ (g : Handle). ite
 pub block_in : (bytes : List ℕ) (h : RunHandles) (n : ℕ) (g : Handle) → slice_get (index_in bytes h.index) n ≡ Some g → slice_get (blocks_in bytes h) n ≡ Some (items_in entries (payload_in bytes (range_of g)))
 block_in bytes h n g at = slice_get-map (λ (k : Handle). items_in entries (payload_in bytes (range_of k))) (index_in bytes h.index) n ∙ cc (at)
 
--- a run has no place in a block that is not there
-pub no_place : (bytes : List ℕ) (h : RunHandles) (block index : ℕ) → length (index_in bytes h.index) ≤ block → IsPlaceIn (blocks_in bytes h) block index → ⊥
-no_place bytes h block index past place = omega (arith, past, slice_get_within (blocks_in bytes h) block place.items place.there, blocks_count bytes h)
-
+-- the same by a range of an index
 pub block_of_handle : (bytes : List ℕ) (h : RunHandles) (items : List Handle) (n : ℕ) (k : HandleParts) → items ≡ index_in bytes h.index → Some k ≡ option_map handle_range (slice_get items n)
     → slice_get (blocks_in bytes h) n ≡ Some (items_in entries (payload_in bytes k))
 block_of_handle bytes h items n k same at =

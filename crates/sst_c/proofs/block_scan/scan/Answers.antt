@@ -1,6 +1,6 @@
 use Rattle.std.proofs.Common.{◌≡◌, ◌∙◌, [], ◌∷◌, Some, true, false, length, refl, sym, ap, arith, subst, inl, inr}
 use Rattle.std.specs.Prelude.{slice_get, ◌⊎◌}
-use Rattle.sst_block_core.specs.DataBlock.{DataRefParts}
+use Rattle.sstable_blocks.specs.Prelude.{DataRefParts}
 use Rattle.sstable_blocks.specs.Prelude.{entries, items_in}
 use Rattle.sst_c.specs.Batches.{IsBatch}
 use Rattle.sst_c.specs.Windows.{left_in}

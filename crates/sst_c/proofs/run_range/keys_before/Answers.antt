@@ -1,5 +1,5 @@
 use Rattle.std.proofs.Common.{◌≡◌, ◌∙◌, List, None, sym, ap}
-use Rattle.sst_block_core.specs.DataBlock.{DataRefParts}
+use Rattle.sstable_blocks.specs.Prelude.{DataRefParts}
 use Rattle.sstable_blocks.specs.Prelude.{Entry, count_passed, entries, items_in}
 use Rattle.sstable_blocks.specs.BoundLaws.{passed_below}
 use Rattle.sst_c.proofs.run_range.keys_before.Goals as goal
