@@ -5,14 +5,12 @@ use Rattle.std.specs.Cmp.{nat_cmp_is}
 use Rattle.std.specs.Cmp.Lexicographic.{slice_cmp}
 use Rattle.std.specs.List.{AllByRecursion}
 use Rattle.std.specs.Option.{option_map, IfSome}
-use Rattle.std.specs.Ordering.{nat_cmp, is_eq, is_lt, ordering_then}
-use Rattle.std.specs.Prelude.{nat_lt}
-use Rattle.std.specs.declared.cmp.Ordering.{Ordering}
+use Rattle.std.specs.Ordering.{nat_cmp, is_lt, ordering_then}
 use Rattle.std.specs.declared.cmp.Ordering.TheVariants.{Equal, Greater}
 use Rattle.sstable_blocks.specs.Prelude.{Entry, plain, entries, IsOrdered, first_match, is_version}
-use Rattle.sstable_blocks.specs.BlockLaws.{slice_cmp-equal, and_parts, eq_is}
+use Rattle.sstable_blocks.specs.BlockLaws.{slice_cmp-equal}
 use Rattle.sst_merge.specs.Compact.{compact_from, is_seen, is_hidden, is_dropped, unless_dropped}
-use Rattle.sst_merge.specs.Merge.{entry_cmp, lesser, merge, merge_after}
+use Rattle.sst_merge.specs.Merge.{entry_cmp, lesser, merge}
 use Rattle.sst_merge.specs.RangeLaws.{version_key}
 use Rattle.sst_merge.specs.ReadLaws.{merge_match}
 use Rattle.sst_examples.specs.Levels.{AreBelow, AreNewer}

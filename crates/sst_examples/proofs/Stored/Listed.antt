@@ -1,13 +1,13 @@
 -- Tables over sound runs: their entries are known, and known entries are those of a sound run.
-use Rattle.std.proofs.Common.{◌≡◌, ℕ, zero, suc, ◌<◌, ◌^◌, Bool, true, false, not, cond, List, [], ◌∷◌, length, drop, map, get_or, Option, Some, None, Result, Ok, Err, refl, sym, ap, subst, ◌∙◌, arith, length-drop}
+use Rattle.std.proofs.Common.{◌≡◌, ℕ, zero, suc, ◌<◌, ◌^◌, Bool, true, false, cond, List, [], ◌∷◌, length, map, get_or, Option, Some, None, Result, Ok, Err, refl, sym, ap, subst, ◌∙◌, arith}
 use Rattle.std.proofs.lemmas.Bool.{ltb-true}
-use Rattle.std.proofs.lemmas.List.{get_or-map, length-map, length-take-le}
+use Rattle.std.proofs.lemmas.List.{get_or-map, length-map}
 use Rattle.std.specs.Cmp.Derive.{both_true}
 use Rattle.std.specs.Option.{option_map, is_some, IfSome}
 use Rattle.std.specs.Prelude.{nat_lt, ◌&&◌}
 use Rattle.xxh3.specs.Xxh3Laws.{xxh3_128-below}
-use Rattle.sstable_blocks.specs.Prelude.{HandleParts, IsBytes, Entry, plain, is_in_order, entries, IsOrdered, Handle}
-use Rattle.sstable_blocks.specs.BlockLaws.{length-frame, and_parts, lt_test, some_is}
+use Rattle.sstable_blocks.specs.Prelude.{HandleParts, IsBytes, Entry, plain, Handle}
+use Rattle.sstable_blocks.specs.BlockLaws.{and_parts, lt_test, some_is}
 use Rattle.sstable_blocks.specs.Results.{◌>>=◌, Error, BadHandle}
 use Rattle.sstable_blocks.specs.BlockTypes.{Index, Meta}
 use Rattle.sstable_blocks.specs.BlockTypes as types
@@ -25,9 +25,8 @@ use Rattle.sst_parts.specs.declared.any_table.AnyTable.TheVariants.{Plain, Parte
 use Rattle.sstable_blocks.specs.Tables.{kept_of}
 use Rattle.sst_examples.specs.Tables.{MemoryTable, merged_tables, table_entries, table_hashes}
 use Rattle.sstable_blocks.specs.Blocks.{joined}
-use Rattle.sstable_blocks.specs.Run.{IsFramed}
 use Rattle.sstable_blocks.specs.RunChecks.{check_run, summary_of}
-use Rattle.sstable_blocks.specs.RunReading.{Hashes, IsFramedAt, handles_at}
+use Rattle.sstable_blocks.specs.RunReading.{Hashes, handles_at}
 use Rattle.sstable_blocks.specs.Scans.{KeyRange, blocks_read, handles_within, within}
 use Rattle.sstable_blocks.specs.Sound.{IsSound, IsStoredFilter}
 use Rattle.sstable_blocks.specs.declared.run.RunHandles.{RunHandles}

@@ -27,7 +27,7 @@ abbrev IsLeft : goal.After-drop-self-inside → Type 0
 IsLeft c = (older : List Entry) → merged_tables c.self.inside.tables.items ≡ Some older → HoldsEntries c.in_ok-table.table (map plain (compacted (λ (e : Entry). e) (reads_at c) (λ _. true) older))
 
 left : (c : goal.After-drop-self-inside) → IsLeft c
-left c = written (reads_at c) c.self.inside.tables.items c.deref.result.now c.in_ok-merged.merged c.new.result c.in_ok-table.table c.in_ok-merged.ensures c.deref.ensures.value (c.new.ensures ∙ ap (λ l. left_as (compacted (λ (e : Entry). e) l (λ _. true)) None c.in_ok-merged.merged) (same_reads c)) (λ items known. c.in_ok-table.ensures items (entries_themselves c.new.result.list ∙ known))
+left c = written (reads_at c) c.self.inside.tables.items c.deref.result.now c.in_ok-merged.merged c.new-compacted.result c.in_ok-table.table c.in_ok-merged.ensures c.deref.ensures.value (c.new-compacted.ensures ∙ ap (λ l. left_as (compacted (λ (e : Entry). e) l (λ _. true)) None c.in_ok-merged.merged) (same_reads c)) (λ items known. c.in_ok-table.ensures items (entries_themselves c.new-compacted.result.list ∙ known))
 
 added : (c : goal.After-drop-self-inside) → c.add_table.new.tables.items ≡ before c.in_ok-table.table []
 added c = c.in_ok-add_table.ensures.ok ∙ ap (before c.in_ok-table.table) c.new-tables.ensures.items

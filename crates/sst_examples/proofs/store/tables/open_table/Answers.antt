@@ -1,4 +1,4 @@
-use Rattle.std.proofs.Common.{◌≡◌, Some, ◌∙◌, ap, sym, subst, ℕ, List}
+use Rattle.std.proofs.Common.{◌≡◌, Ok, Some, ◌∙◌, ap, subst, ℕ, List}
 use Rattle.sstable_blocks.specs.Prelude.{IsBytes}
 use Rattle.sst_examples.proofs.Stored.Listed.{parted_opened, plain_opened}
 use Rattle.sst_parts.specs.AnyTables.{any_by_handles, kept_in, source_in}
