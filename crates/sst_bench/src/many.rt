@@ -104,6 +104,8 @@ fn cached<S: FrameSource + Drop>(
 ) -> Option<u64> {
     let mut cache = BlockCache::new(alloc, MOST).ok()?;
     let mut table = CachedTable::new(&mut cache, table).ok()?;
+    // (each block is kept before the turns)
+    add_cached(0, &mut cache, &mut table, keys, alloc)?;
     let mut sum = 0;
     for turn in 0..times {
         let _ = turn;
