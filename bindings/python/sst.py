@@ -198,7 +198,9 @@ class Table:
     def scan(self, start=b"", end=None, reverse=False, below=None, batch=64):
         """The entries of the keys from `start` on, up to and without `end` (None: to the last), with numbers
         strictly below `below` (None: all): by key rising and then by sequence number falling, all versions, tombstones
-        too; or backwards. They are read in batches of so many."""
+        too; or backwards. They are read in batches of so many, at least 1."""
+        if batch < 1:
+            raise ValueError("a batch has at least one entry")
         window, count, places = _Window(), ctypes.c_size_t(), (_Place * batch)()
         to = b"" if end is None else end
         _LIB.sst_run_range(*self._run, True, start, len(start), end is not None, to, len(to), ctypes.byref(window))
