@@ -220,7 +220,7 @@ uint32_t sst_run_check(const uint8_t *run, size_t len, const struct sst_run_hand
 uint32_t sst_run_get(const uint8_t *run, size_t len, const struct sst_run_handles *handles,
                      const uint8_t *key, size_t key_len, uint64_t below_seqno, struct sst_place *place);
 
-/* Scans of a run as for sst_run_get go block by block: from either end, or from where sst_run_seek leads.
+/* A run as for sst_run_get can be listed block by block, from either end or from where sst_run_seek leads.
    The number of its blocks. Takes no memory. */
 size_t sst_run_block_count(const uint8_t *run, size_t len, const struct sst_run_handles *handles);
 
