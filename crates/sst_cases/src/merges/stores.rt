@@ -101,6 +101,27 @@ fn told(alloc: Global, words: &[&str], parts: Option<PartSizes>) -> Result<Strin
     Ok(text)
 }
 
+// Whether a story tells of a step for which an allocation was refused.
+fn is_refused(text: &str) -> bool {
+    for word in text.split(' ') {
+        if word == "Memory" {
+            return true;
+        }
+    }
+    false
+}
+
+// The story that both tell, or the one in which a step was refused.
+fn agreed(whole: String, parted: String) -> Result<String> {
+    if whole.as_str() == parted.as_str() || is_refused(whole.as_str()) {
+        return Ok(whole);
+    }
+    if is_refused(parted.as_str()) {
+        return Ok(parted);
+    }
+    Err(Fault::Differs)
+}
+
 /// A story of a new store: STEP .., each `write:KEY:VALUE`, `write:KEY`, which deletes, `snapshot`,
 /// `release:SNAPSHOT`, `flush`, `compact` or `read:KEY:SEQNO`. It is told of a store whose tables
 /// are whole, and again of one whose tables are in parts of a block: both have to agree.
@@ -110,10 +131,5 @@ pub fn story(alloc: Global, words: &[&str]) -> Result<String> {
         blocks: 1,
         bytes: 0,
     };
-    let parted = told(alloc, words, Some(sizes))?;
-    if whole.as_str() == parted.as_str() {
-        Ok(whole)
-    } else {
-        Err(Fault::Differs)
-    }
+    agreed(whole, told(alloc, words, Some(sizes))?)
 }
