@@ -101,10 +101,11 @@ fn told(alloc: Global, words: &[&str], parts: Option<PartSizes>) -> Result<Strin
     Ok(text)
 }
 
-// Whether a story tells of a step for which an allocation was refused.
+// Whether a story tells of a step for which an allocation was refused; that of a vector that is
+// written to is told as `Io`.
 fn is_refused(text: &str) -> bool {
     for word in text.split(' ') {
-        if word == "Memory" {
+        if word == "Memory" || word == "Io" {
             return true;
         }
     }
