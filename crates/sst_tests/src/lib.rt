@@ -19,8 +19,6 @@ mod copied_parts;
 #[cfg(test)]
 mod many_keys;
 #[cfg(test)]
-mod merged_parts;
-#[cfg(test)]
 mod merges;
 #[cfg(test)]
 mod parts;

@@ -129,33 +129,17 @@ fn wrong_finds(alloc: Global, blocks: usize) -> sst_base::Result<u64> {
     if summary.whole.entries != 54 {
         return Err(Error::BadEntry);
     }
-    Ok(wrong_finds_in(&table))
-}
-
-// How many finds in a parted table of six keys give the wrong version.
-fn wrong_finds_in(table: &PartedRef<'_, ByteSum>) -> u64 {
     let mut wrong = 0u64;
     for key in 0u8..14 {
-        wrong = wrong.saturating_add(wrong_finds_of_key(table, key));
+        wrong = wrong.saturating_add(wrong_finds_of_key(&table, key));
     }
-    wrong
-}
-
-// The same in a table in memory that was verified.
-fn wrong_finds_of_trusted(alloc: Global, blocks: usize) -> sst_base::Result<u64> {
-    let bytes = written(alloc, 4, PartSizes { blocks, bytes: 0 }, 10)?;
-    let mut table = open_bytes(alloc, bytes)?;
-    match table.verify(alloc) {
-        Ok(_) => Ok(wrong_finds_in(&table.trusted())),
-        Err(error) => Err(error),
-    }
+    Ok(wrong)
 }
 
 #[test]
 fn versions_are_found_in_borrowed_bytes(rt: HostRuntime) {
     for blocks in &[0usize, 1, 2] {
         assert!(rt; wrong_finds(rt.alloc(), *blocks) == Ok(0));
-        assert!(rt; wrong_finds_of_trusted(rt.alloc(), *blocks) == Ok(0));
     }
 }
 
