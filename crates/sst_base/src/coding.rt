@@ -122,7 +122,7 @@ fn decode_digits(bytes: &[u8], max: u64) -> Option<(u64, usize)>
     None
 }
 
-// Decodes a varint of any length, out of line, so that callers stay small. The length 0 stands for
+// Decodes a varint of any length, out of line, so that callers stay small. The length 0 means
 // `None`: a pair of numbers is returned in registers, an `Option` of one by way of memory.
 #[cold]
 #[inline(never)]

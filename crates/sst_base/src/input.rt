@@ -58,8 +58,8 @@ pub trait Input: Read {
         ensures whole { whole self.new ≡ whole self.old };
 }
 
-/// Appends the next `len` bytes of any reader to a vector, behind room of zeros that it fills: what
-/// [`Input::append`] is for a reader that lies in no memory.
+/// Appends the next `len` bytes of any reader to a vector, which it first makes longer by zeros:
+/// what [`Input::append`] is for a reader whose bytes are not in memory.
 ///
 /// # Errors
 ///
@@ -81,7 +81,7 @@ pub fn append_exact<R: Read>(reader: &mut R, buf: &mut Vec<u8>, len: usize) -> R
     fill_behind(reader, buf, start)
 }
 
-// Fills what is behind an index.
+// Fills what is after an index.
 fn fill_behind<R: Read>(reader: &mut R, room: &mut [u8], start: usize) -> Result<()>
     requires { start ≤ length room.old }
     ensures ok { OnOk result

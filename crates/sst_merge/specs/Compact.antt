@@ -1,5 +1,5 @@
 -- Compactions of ordered lists of versions, for several snapshots: `staying` says of each version whether it stays, by
--- those before it and behind it, and `compacted` by the last one that a snapshot sees and the next one that it does not
+-- those before it and after it, and `compacted` by the last one that a snapshot sees and the next one that it does not
 -- hide; `StayLaws` has that these are the same.
 use Rattle.std.specs.Prelude.{ℕ, ◌≤◌, nat_lt, nat_le, nat_eq, Bool, true, false, not, ◌&&◌, ◌||◌, ◌⊎◌, ◌≡◌, if◌then◌else◌, List, [], ◌∷◌, Option, Some, None}
 use Rattle.std.specs.List.{list_any, list_all}
@@ -41,7 +41,7 @@ module _ {X : Type 0} (entry : X → Entry) where
   is_left_under snapshots last (e ∷ es) =
       if is_seen snapshots (entry e).key.seqno && is_hidden snapshots (Some last) e then is_left_under snapshots last es else is_parted_from snapshots last e
 
-  -- does a version go that some snapshot sees, where these are behind it? It is a tombstone at the bottom of its key, and no
+  -- does a version go that some snapshot sees, where these are after it? It is a tombstone at the bottom of its key, and no
   -- version of the key is left under it
   abbrev pub is_dropped : List ℕ → (List ℕ → Bool) → X → List X → Bool
   is_dropped snapshots bottom e behind =
@@ -77,8 +77,8 @@ module _ {X : Type 0} (entry : X → Entry) where
   abbrev pub has_older : List ℕ → List X → X → Bool
   has_older snapshots behind e = list_any (is_parted_from snapshots ((entry e).key.user_key, (entry e).key.seqno)) behind
 
-  -- does a version stay between those before it and those behind it? No snapshot sees it; or one sees it that sees none of
-  -- its key before it, and it is no tombstone at the bottom, or a snapshot sees one of its key behind it and not it
+  -- does a version stay between those before it and those after it? No snapshot sees it; or one sees it that sees none of
+  -- its key before it, and it is no tombstone at the bottom, or a snapshot sees one of its key after it and not it
   abbrev pub stays : List ℕ → (List ℕ → Bool) → List X → X → List X → Bool
   stays snapshots bottom before e behind =
       not (is_seen snapshots (entry e).key.seqno)

@@ -122,13 +122,13 @@ module _ (needle : List ℕ) (s : ℕ) where
 pub known_count : {R : Type 0} (list : R → Option (List Entry)) (rs : List R) (lists : List (List Entry)) → all_known (map list rs) ≡ Some lists → length lists ≡ length rs
 known_count list rs lists known = known_length (map list rs) lists known ∙ length-map rs list
 
--- what is behind an index is behind a later one
+-- what is after an index is after a later one
 pub later : {R : Type 0} (rs all : List R) (i n : ℕ) → i ≤ n → drop i rs ≡ drop i all → drop n rs ≡ drop n all
 later rs all i n less same =
     let e : i + (n - i) ≡ n = omega (arith, less) in
     ap (λ k. drop k rs) (sym e) ∙ sym (drop-drop (n - i) i rs) ∙ ap (drop (n - i)) same ∙ drop-drop (n - i) i all ∙ ap (λ k. drop k all) e
 
--- the readers behind one that was read are the same
+-- the readers after one that was read are the same
 pub behind_more : {R : Type 0} (rs all : List R) (i n : ℕ) (new : R) → i < n → drop i rs ≡ drop i all → drop n (set rs i new) ≡ drop n all
 behind_more rs all i n new less same =
     drop-set-lt n rs i new less ∙ later rs all i n (omega (arith, less)) same

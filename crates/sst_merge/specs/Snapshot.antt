@@ -10,7 +10,7 @@ abbrev pub seen : Option Entry → Option Entry
 seen None = None
 seen (Some e) = if is_tombstone e.key.value_type then None else Some e
 
--- the items that pass a test, which sees those before an item, the nearest first, the item, and those behind it
+-- the items that pass a test, which sees those before an item, the nearest first, the item, and those after it
 abbrev pub kept_between : {X : Type 0} → (List X → X → List X → Bool) → List X → List X → List X
 kept_between test before [] = []
 kept_between test before (x ∷ xs) = if test before x xs then x ∷ kept_between test (x ∷ before) xs else kept_between test (x ∷ before) xs

@@ -1,5 +1,5 @@
 -- What a compaction of an ordered list for several snapshots leaves of it: the versions that pass a test of a version, of
--- those before it and of those behind it.
+-- those before it and of those after it.
 use Rattle.std.proofs.Common.{◌≡◌, ◌≢◌, ℕ, ◌≤◌, Bool, true, false, not, cond, List, [], ◌∷◌, Option, Some, None, refl, sym, ap, ◌∙◌, inl, inr, arith}
 use Rattle.std.proofs.lemmas.Bool.{cases_Bool}
 use Rattle.std.proofs.lemmas.Bool.Decides.{nat_tests}
@@ -111,7 +111,7 @@ module _ {X : Type 0} (entry : X → Entry) (ss : List ℕ) (bottom : List ℕ �
     agree_again last x before rest again all.1,
   )
 
-  -- what the last version does not hide has nothing behind it that the last version hides
+  -- what the last version does not hide has nothing after it that the last version hides
   past : (last : Option (List ℕ × ℕ)) (x e : X) (xs : List X) → Behind entry 0 (last_key last) (x ∷ xs) → is_hidden entry ss last x ≡ false → cmp e x ≢ Less → is_hidden entry ss last e ≡ false
   past None x e xs h f up = refl
   past (Some l) x e xs h f up = elim (cases_Bool (has_last_key entry (Some l.0) x)) [
@@ -135,14 +135,14 @@ module _ {X : Type 0} (entry : X → Entry) (ss : List ℕ) (bottom : List ℕ �
   behind_more : (last : Option (List ℕ × ℕ)) (x : X) (xs : List X) → Behind entry 0 (last_key last) (x ∷ xs) → Behind entry 0 (last_key last) xs
   behind_more last x xs h = behind_rest entry 0 (last_key last) x xs h
 
-  -- behind a version of another key none has the last key
+  -- after a version of another key none has the last key
   none_older : (x y : X) (ys rest : List X) → Behind entry 0 (Some (key_of x)) (y ∷ ys) → has_last_key entry (Some (key_of x)) y ≡ false → Behind entry 0 (Some (key_of y)) rest → has_older entry ss rest x ≡ false
   none_older x y ys [] h different k = refl
   none_older x y ys (e ∷ rest) h different k =
       ap (λ b. b || has_older entry ss rest x) (first_false (has_last_key entry (Some (key_of x)) e) (is_parted ss (num e) (num x)) (other entry 0 (Some (key_of x)) y e ys h different k.0))
       ∙ none_older x y ys rest h different k.1
 
-  -- what is left under a version is what is behind it
+  -- what is left under a version is what is after it
   under_same : (x : X) (xs : List X) → is_seen ss (num x) ≡ true → IsInOrder cmp (x ∷ xs) → is_left_under entry ss (key_of x, num x) xs ≡ has_older entry ss xs x
   under_same x [] seen up = refl
   under_same x (y ∷ ys) seen up =

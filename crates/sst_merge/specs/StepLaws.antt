@@ -48,7 +48,7 @@ module _ {X : Type 0} (entry : X → Entry) (ss : List ℕ) (bottom : List ℕ �
       ∙ ap (λ b. Some (cond b behind (x ∷ behind))) (sym (found xs refl))
       ∙ sym (ap (unless goes x) same ∙ unless_some goes x behind)
 
-  -- a version that some snapshot sees and the last one does not hide, where versions behind it may have been taken ahead
+  -- a version that some snapshot sees and the last one does not hide, where versions after it may have been taken ahead
   pub fresh_step : (last : Option (List ℕ × ℕ)) (k : List ℕ) (n : ℕ) (x : X) (o next after : Option (List X)) (goes : Bool) → key_of x ≡ k → num x ≡ n → is_seen ss (num x) ≡ true → is_hidden entry ss last x ≡ false
       → o ≡ option_map (λ xs. x ∷ xs) next → Tells x goes (k, n) next → go (Some (k, n)) after ≡ go (Some (k, n)) next → go last o ≡ unless goes x (go (Some (k, n)) after)
   fresh_step last k n x o next after goes key number seen fresh is =

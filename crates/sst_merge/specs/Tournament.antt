@@ -1,4 +1,4 @@
--- A tournament of sources: at each place stands the source that goes first of those that stand behind it.
+-- A tournament of sources: at each place stands the source that goes first of those that stand after it.
 use Rattle.std.specs.Prelude.{◌≡◌, ℕ, zero, suc, ◌+◌, ◌*◌, ◌/◌, ◌<◌, ◌≤◌, ◌⊎◌, List, length, map, Option, Some, None, true, slice_index}
 use Rattle.std.proofs.Math.ListN.{get_or}
 use Rattle.std.proofs.Common.{nat_lt}

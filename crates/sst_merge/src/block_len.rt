@@ -54,7 +54,7 @@ fn full_len(entry: &EntryView<'_>) -> usize
     fields + varint_len(key_len as u64) + key_len + value_len(entry)
 }
 
-// How many bytes an entry takes behind a head with which its key shares so many bytes.
+// How many bytes an entry takes after a head with which its key shares so many bytes.
 #[inline(always)]
 #[tactic(auto, unfolding(sst_block_core::specs::Entries::truncated))]
 fn truncated_len(entry: &EntryView<'_>, shared: usize) -> usize
@@ -67,7 +67,7 @@ fn truncated_len(entry: &EntryView<'_>, shared: usize) -> usize
     fields + varint_len(rest as u64) + rest + value_len(entry)
 }
 
-// How many bytes an entry takes behind a head, without what their keys share.
+// How many bytes an entry takes after a head, without what their keys share.
 #[inline(always)]
 #[tactic(auto, using(sst_base::specs::SharedPrefixLaws::shared_prefix_inside))]
 fn len_behind(head: &EntryView<'_>, entry: &EntryView<'_>) -> usize

@@ -112,8 +112,8 @@ pub fn snapshot_shows()
 {}
 
 /// What a compaction leaves of an ordered list, said by each version, those before it and those
-/// behind it: no snapshot sees it; or one sees it that sees no version of its key before it, and it
-/// is no tombstone at the bottom, or a snapshot sees a version of its key behind it and not it.
+/// after it: no snapshot sees it; or one sees it that sees no version of its key before it, and it
+/// is no tombstone at the bottom, or a snapshot sees a version of its key after it and not it.
 pub fn compaction_leaves()
     ensures { (snapshots : List ℕ) (bottom : List ℕ → Bool) (items : List Entry)
         → IsOrdered entries items

@@ -220,7 +220,7 @@ fn better<T: Ranked, I: Source<T>>(heads: &[Head<T, I>], i: usize, j: usize) -> 
     }
 }
 
-// Of the two sources behind a place of a tournament the one whose version comes first.
+// Of the two sources after a place of a tournament the one whose version comes first.
 #[inline(always)]
 fn play<T: Ranked, I: Source<T>>(heads: &[Head<T, I>], places: &[usize], k: usize) -> usize
     requires here { k < length heads.now }

@@ -104,7 +104,7 @@ pub fn read_tables<R: Reader>(
 /// Returns the first entry with this key whose sequence number is strictly below `seqno`, of
 /// readers that are levels: of no key has a reader a version newer than one of a reader before it,
 /// as newer tables of a store that come first. So the first reader that has such an entry decides,
-/// and none behind it is asked. What is examined is added to `steps`.
+/// and none after it is asked. What is examined is added to `steps`.
 ///
 /// # Errors
 ///

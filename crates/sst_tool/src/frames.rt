@@ -43,7 +43,7 @@ fn frame_in<H: BlockHash>(bytes: &[u8]) -> Option<Frame> {
     })
 }
 
-// The number of bytes before the first that may begin a header, behind the first byte.
+// The number of bytes before the first that may begin a header, after the first byte.
 fn bytes_before_magic(bytes: &[u8]) -> usize
     ensures { 1 ≤ result }
 {

@@ -99,7 +99,7 @@ impl<'w> Names<'w> {
     }
 }
 
-/// The name of one of the files: its number is in the place of `{}`, or behind a dot at the end.
+/// The name of one of the files: its number is in the place of `{}`, or after a dot at the end.
 /// It is displayed without memory.
 #[derive(Clone, Copy)]
 pub struct Name<'w> {
@@ -299,7 +299,7 @@ impl<'r, 'w, 'c, R: LockFiles> NewTables<'r, 'w, 'c, R> {
         }
     }
 
-    /// Puts all tables in place, in order, if they were filled. Where they were not, and behind the
+    /// Puts all tables in place, in order, if they were filled. Where they were not, and after the
     /// first that is not put in place, the files of these names are as they were.
     ///
     /// # Errors

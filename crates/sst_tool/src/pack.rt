@@ -37,7 +37,7 @@ enum Refusal {
 struct Notes {
     // The entries that were read.
     entries: Cell<u64>,
-    // Why the line behind them is refused.
+    // Why the line after them is refused.
     refused: Cell<Option<Refusal>>,
     // Why a write of the new table failed, as the system says.
     cause: Cell<Option<io::Error>>,

@@ -25,8 +25,8 @@ impl fmt::Display for Gap {
     }
 }
 
-/// The bytes of a table file that belong to no frame: behind the data blocks, behind the next
-/// frame, and behind the last one, before the footer.
+/// The bytes of a table file that belong to no frame: after the data blocks, after the next
+/// frame, and after the last one, before the footer.
 #[derive(Clone, Copy)]
 pub struct Gaps([Option<Gap>; 3]);
 

@@ -1,5 +1,4 @@
 -- Scans: windows within a range of keys, steps from both ends, and what is left to read.
-pub mod ScanWindows
 pub mod SoundScans
 pub mod ScanCounts
 pub mod ScanSteps

@@ -17,7 +17,7 @@ asks_stop f f' a a' n R e read rest asked fails = (
   ],
 )
 
--- behind a stage that succeeds the next ones ask
+-- after a stage that succeeds the next ones ask
 pub asks_on : {Z : Type 0} (f f' f'' a a' a'' n : ℕ) (P : Type 0) (read : Result Z Error) (z : Z) (rest : Z → ℕ) → read ≡ Ok z → a' ≡ a + n → f ≤ f' → f' ≤ f''
     → AsksFor f' f'' a' a'' P (rest z) → AsksFor f f'' a a'' P (n + frames_after read rest)
 asks_on f f' f'' a a' a'' n P read z rest found asked grow grow' next =

@@ -5,6 +5,7 @@ pub mod Probes
 pub mod Filter
 pub mod FilterLaws
 pub mod Blocks
+pub mod JoinedLaws
 pub mod Lookup
 pub mod Run
 pub mod Opened
@@ -53,6 +54,7 @@ pub mod FrameCountLaws
 pub mod BoundLaws
 pub mod BetweenLaws
 pub mod RisingLaws
+pub mod KeyRangeLaws
 pub mod RangeReadLaws
 pub mod Callers
 pub mod Prelude

@@ -29,14 +29,14 @@ pub use Rattle.sst_block_core.specs.Handles.{IsIndexBlock, IndexPasses, IndexPas
 pub use Rattle.sst_block_core.specs.ParsedEntry.{IsParsedEntry, entry_of}
 pub use Rattle.sst_block_core.specs.ParsedHandle.{IsParsedHandle, parsed_handle}
 pub use Rattle.sst_block_core.specs.Tombstones.{is_tombstone}
-pub use Rattle.sst_block_core.specs.Body.{item_form, truncated_against}
+pub use Rattle.sst_block_core.specs.Body.{item_form, place_offset, truncated_against}
 unfoldable pub use Rattle.sst_block_core.specs.Body.{body}
 pub use Rattle.sst_block_core.specs.Buckets.{bucket_count}
 pub use Rattle.sst_block_core.specs.Pointers.{head_count}
 pub use Rattle.sst_block_core.specs.Trailer.{trailer_in}
 unfoldable pub use Rattle.sst_block_core.specs.Heads.{front}
 pub use Rattle.sst_block_core.specs.Payload.{IsBlock}
-pub use Rattle.sst_block_core.specs.DataBlock.{DataBlockParts, DataRefParts}
+pub use Rattle.sst_block_core.specs.DataBlock.{DataBlockParts, DataRefParts, data_ref_of}
 pub use Rattle.sst_block_core.specs.Encoders.{IsRefusal}
 pub use Rattle.sst_block_core.specs.Stages.{Passes, items_in}
 unfoldable pub use Rattle.sst_block_core.specs.Disorder.{disorder_from}

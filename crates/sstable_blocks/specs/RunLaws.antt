@@ -40,7 +40,7 @@ module _ (f : Form) where
   block_frames-append [] ys = refl
   block_frames-append (b ∷ bs) ys = ap (λ zs. block_frame f b ++ zs) (block_frames-append bs ys) ∙ sym (append_assoc (block_frame f b) (block_frames f bs) (block_frames f ys))
 
-  -- each block of a run that fits, fits behind those before it
+  -- each block of a run that fits, fits after those before it
   pub fits_one : (blocks : List (List Entry)) (b : List Entry) (bs : List (List Entry)) → RunFits f (blocks ++ b ∷ bs) → FrameFits f (length (block_frames f blocks)) b
   fits_one blocks b bs fits =
       let all = blocks ++ b ∷ bs in

@@ -24,7 +24,7 @@ part_of_part all start len o n h =
     ∙ take-take n (len - o) (drop o (drop start all)) (omega arith)
     ∙ ap (take n) (drop-drop o start all)
 
-part_long : (all : List ℕ) (g : HandleParts) → g.offset + g.size ≤ length all → length (part_in all g) ≡ g.size
+pub part_long : (all : List ℕ) (g : HandleParts) → g.offset + g.size ≤ length all → length (part_in all g) ≡ g.size
 part_long all g h = let l = length-drop g.offset all in length-take-le g.size (drop g.offset all) (omega arith)
 
 -- what is inside a part is read of the source

@@ -1,4 +1,4 @@
--- What is counted of a list of entries, in front and behind: its last key, the least and the greatest sequence number.
+-- What is counted of a list of entries, in front and after: its last key, the least and the greatest sequence number.
 use Rattle.std.proofs.Common.{◌≡◌, ℕ, ◌≤◌, min, max, List, [], ◌∷◌, ◌++◌, length, refl, arith, sym, ◌∙◌, ap, length-append}
 use Rattle.std.specs.List.{AllZip}
 use Rattle.sst_base.specs.Entry.{Entry}

@@ -22,7 +22,7 @@ pub layout-end : (f : Form) (blocks : List (List Entry)) (bytes : List ℕ) (h :
 unfolding run_text run_handles
 layout-end f blocks bytes h l = rw (l.text, l.handles) (end-cases _ _ _ _)
 
--- a run and its footer behind it are a table
+-- a run and its footer after it are a table
 pub table-of : (f : Form) (blocks : List (List Entry)) (h : RunHandles) (old now after : Option (List ℕ)) (len : ℕ) → AppendsLayout f blocks old now h → Appends now after (footer h)
     → len ≡ run_end h + 24 → AppendsTable f blocks old after h len
 table-of f blocks h old now after len l behind is-len = record {

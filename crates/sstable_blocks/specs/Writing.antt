@@ -84,7 +84,7 @@ WritesLast never_fails old new result = IfErr result (λ e. e ≢ Io → new ≡
 abbrev pub AppendsLayout : Form → List (List Entry) → Option (List ℕ) → Option (List ℕ) → RunHandles → Type 0
 AppendsLayout f blocks old new h = (text : List ℕ) × IsLayout f blocks text h × Appends old new text
 
--- the bytes of a table file: the layout of a run, and its footer behind it
+-- the bytes of a table file: the layout of a run, and its footer after it
 pub record IsTable (f : Form) (blocks : List (List Entry)) (h : RunHandles) (bytes : List ℕ) : Type 0 where
   pub run : List ℕ
   pub layout : IsLayout f blocks run h
@@ -97,7 +97,7 @@ pub record AppendsTable (f : Form) (blocks : List (List Entry)) (old new : Optio
   pub appended : Appends old new bytes
   pub len_is : len ≡ length bytes
 
--- a run and the footer behind it fit 64 bits
+-- a run and the footer after it fit 64 bits
 pub record TableFits (f : Form) (blocks : List (List Entry)) : Type 0 where
   pub run : RunFits f blocks
   pub end : (bytes : List ℕ) (h : RunHandles) → IsLayout f blocks bytes h → length bytes + 24 < 2 ^ 64

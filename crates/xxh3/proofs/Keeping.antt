@@ -26,7 +26,7 @@ pub grown : (m d : List ℕ) (n : ℕ) → n ≤ length m → IsSame m 0 (m ++ d
 grown m d n fits = record { each = λ k l. sym (get_or_append_left m d 0 (0 + k) (omega arith)) }
 
 module _ (s t : State) (m d : List ℕ) (n : ℕ) (h : IsFedAt s m n) where
-  -- bytes that wait behind the others
+  -- bytes that wait after the others
   pub waits_more : IsPut s.window t.window (64 + s.filled) d → t.filled ≡ s.filled + length d → t.total ≡ (s.total + length d) % 2 ^ 64
       → t.place ≡ s.place → t.has_stripes ≡ s.has_stripes → t.sums ≡ s.sums → IsFedAt t (m ++ d) n
   waits_more p filled total place stripes sums =

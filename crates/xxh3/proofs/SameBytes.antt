@@ -58,7 +58,7 @@ with_stripes-same secret sums xs i ys j t (suc n) s =
     (part-same xs i ys j (64 * suc n) s (64 * n) 64 (omega arith)) in
     ap (λ (w : List ℕ). closed secret w (t + n)) (last ∙ ap (λ (w : List ℕ). with_stripe secret w ys (j + 64 * n) (8 * ((t + n) % 16))) before)
 
--- stripes behind stripes
+-- stripes after stripes
 pub with_stripes-more : (secret sums bytes : List ℕ) (i t n k : ℕ)
     → with_stripes secret (with_stripes secret sums bytes i t n) bytes (i + 64 * n) ((t + n) % 16) k ≡ with_stripes secret sums bytes i t (n + k)
 unfolding with_stripes

@@ -4,7 +4,7 @@ use Rattle.xxh3.specs.declared.state.State.{State}
 use Rattle.xxh3.specs.Pieces.{IsSame}
 use Rattle.xxh3.specs.Xxh3.{default_secret, first_sums, with_stripes}
 
--- the sums have n stripes of the message, and the bytes behind them wait
+-- the sums have n stripes of the message, and the bytes after them wait
 pub record IsFedAt (s : State) (message : List ℕ) (n : ℕ) : Type 0 where
   pub length_is : length message ≡ 64 * n + s.filled
   pub total_is : s.total ≡ length message % 2 ^ 64

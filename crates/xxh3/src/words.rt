@@ -55,7 +55,7 @@ pub(crate) fn half_word(bytes: &[u8], at: usize) -> u32
     LittleEndian::read_u32(&bytes[at..])
 }
 
-// The word at `at` and the one behind it, joined.
+// The word at `at` and the one after it, joined.
 #[inline(always)]
 #[tactic(auto, unfolding(crate::specs::Xxh3::pair))]
 pub(crate) fn pair(bytes: &[u8], at: usize) -> u64

@@ -88,7 +88,7 @@ same_front a b n h k s =
     ∙ sym (slice_cmp-append (take n a) (take n b) (drop n a) (drop n b) (la ∙ sym lb))
     ∙ (λ j. slice_cmp nat_cmp (take-append-drop n a j) (take-append-drop n b j))
 
--- behind the same bytes the words at an index decide where they differ
+-- after the same bytes the words at an index decide where they differ
 pub words_decide : (a b : List ℕ) (i x y : ℕ) → IsBytes a → IsBytes b → i + 8 ≤ length a → i + 8 ≤ length b → x ≡ big_number 8 (drop i a) → y ≡ big_number 8 (drop i b) → x ≢ y → take i a ≡ take i b → nat_cmp x y ≡ slice_cmp nat_cmp a b
 words_decide a b i x y c d h k p q ne s =
     let cmp : nat_cmp x y ≡ slice_cmp nat_cmp (take 8 (drop i a)) (take 8 (drop i b)) = ap (λ m. nat_cmp m y) p ∙ ap (nat_cmp _) q ∙ sym (word_cmp a b i c d h k) in

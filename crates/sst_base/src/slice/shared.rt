@@ -17,7 +17,7 @@ const FILL: [usize; 2] = [0, 0];
 /// and one of 8. The pointer is the last word: where a [`super::Slice`] is moved, its place is
 /// moved apart from the others, and these are then the same pieces. A pointer in another place, or
 /// a field of one byte, as a `Bytes` has one, would cut the bytes in other pieces, and each read of
-/// one of them would wait until those that it lies over are stored. So the `Bytes` lies behind the
+/// one of them would wait until those that it lies over are stored. So the `Bytes` lies after the
 /// pointer.
 #[derive(Drop)]
 pub(crate) struct SharedBytes {

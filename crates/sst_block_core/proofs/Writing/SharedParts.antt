@@ -4,7 +4,7 @@ use Rattle.std.proofs.lemmas.Bool.{eq-eqb, ne_eqb, cases_eq}
 use Rattle.std.proofs.lemmas.List.{length-take-le, take-append-drop}
 use Rattle.sst_base.specs.SharedPrefix.{shared_prefix_length}
 
--- of a first part that is not shared whole, what is behind it is not shared
+-- of a first part that is not shared whole, what is after it is not shared
 pub shared_before : (a x b : List ℕ) → shared_prefix_length a b < length a → shared_prefix_length a b ≡ shared_prefix_length (a ++ x) b
 shared_before [] x b less = absurd (omega (arith, less))
 shared_before (p ∷ a) x [] less = refl
@@ -15,7 +15,7 @@ shared_before (p ∷ a) x (q ∷ b) less = elim (cases_eq p q) [
   | inr n ↦ rw (ne_eqb p q n) refl
 ]
 
--- a first part that is shared whole, and what is shared behind it
+-- a first part that is shared whole, and what is shared after it
 pub shared_behind : (a x b : List ℕ) → length a ≤ shared_prefix_length a b → shared_prefix_length a b + shared_prefix_length x (drop (shared_prefix_length a b) b) ≡ shared_prefix_length (a ++ x) b
 shared_behind [] x b whole = omega arith
 shared_behind (p ∷ a) x [] whole = absurd (omega (arith, whole))

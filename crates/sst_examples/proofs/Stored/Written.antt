@@ -70,7 +70,7 @@ all_written kind sizes start bytes h items before after t empty known none =
 pub run_written : (f : Form) (bytes : List ℕ) (h : RunHandles) (blocks : List (List Entry)) → AppendsLayout f blocks (Some []) (Some bytes) h → IsLayout f blocks bytes h
 run_written f bytes h blocks t = subst (λ text. IsLayout f blocks text h) (sym t.2) t.1
 
--- the parts of a parted table that was written into an empty vector, with a footer behind it
+-- the parts of a parted table that was written into an empty vector, with a footer after it
 pub record IsFileOf (f : Form) (bytes : List ℕ) (h : RunHandles) (items : List Entry) : Type 0 where
   pub parts : List (List (List Entry))
   pub layout : IsPartedLayout f parts bytes h.index

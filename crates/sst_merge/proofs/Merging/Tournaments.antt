@@ -192,7 +192,7 @@ module _ {X : Type 0} (cmp : X → X → Ordering) (order : IsTotalOrder cmp) wh
         omega (arith, same, outer, inside))
   ]
 
-  -- who stands at a place came from behind it
+  -- who stands at a place came from after it
   module _ (lefts : List (Left X)) (places : List ℕ) (all : AreWinners cmp lefts places (λ k. IsOnWay k 0)) where
     fresh : (k : ℕ) → 1 ≤ k → IsOnWay k 0 → ⊥
     fresh k some a = let z = none_above k a.steps a.is in omega (arith, some, z)
@@ -270,7 +270,7 @@ module _ {X : Type 0} (cmp : X → X → Ordering) (order : IsTotalOrder cmp) wh
     still_leads : (i a b : ℕ) (l : Left X) → a ≢ i → b ≢ i → Leads cmp lefts a b → Leads cmp (set lefts i l) a b
     still_leads i a b l p q leads xs ys x y = leads xs ys (sym (unmoved i a l p) ∙ x) (sym (unmoved i b l q) ∙ y)
 
-    -- a place that is not above it has another source, as have those behind it
+    -- a place that is not above it has another source, as have those after it
     not_here : (i k m : ℕ) → i < length lefts → 1 ≤ k → k < length lefts → (IsOnWay k ((length lefts + i) / 2) → ⊥) → 1 ≤ m → m < length lefts + length lefts → (m ≡ k) ⊎ (m / 2 ≡ k) → slice_index places m ≢ i
     not_here i k m inside some inner fresh_k p q way e =
         let from = length lefts + i in

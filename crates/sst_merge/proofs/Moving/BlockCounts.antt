@@ -11,7 +11,8 @@ use Rattle.sstable_blocks.specs.Blocks.{IsNotEmpty, joined}
 use Rattle.sst_merge.specs.Merge.{entry_cmp}
 use Rattle.sst_merge.specs.Movable.{is_sought, item_before}
 use Rattle.sst_merge.specs.MovableBlocks.{AreEntryBlocks, entry_key, entries_before, is_last_sought, is_block_sought}
-use Rattle.sst_merge.proofs.Moving.BlockPlaces.{after_append, before_append, before_none}
+use Rattle.sstable_blocks.specs.JoinedLaws.{before_none}
+use Rattle.sst_merge.proofs.Moving.BlockPlaces.{after_append, before_append}
 use Rattle.sst_merge.proofs.Merging.CutSteps.{count_yes, count_no, fails_after, passes_before}
 use Rattle.sst_merge.proofs.Moving.SortedCounts.{sought_apart}
 use Rattle.sstable_blocks.specs.BoundLaws.{below_is, count_same, up_to_is}

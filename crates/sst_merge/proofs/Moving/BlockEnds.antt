@@ -12,7 +12,8 @@ use Rattle.sst_merge.specs.MovableBlocks.{HoldsBack, HoldsFront, IsBackIn, IsFro
 use Rattle.sst_merge.specs.Moved.{IsStep, Moved, in_memory, step_back, step_front}
 use Rattle.sst_merge.specs.declared.movable_blocks.Open.{Open}
 use Rattle.sst_merge.proofs.Moving.BlockCounts.{passed_at_most, passed_below}
-use Rattle.sst_merge.proofs.Moving.BlockPlaces.{before_le, before_next, drop_first, inside_joined, joined_item, take_last}
+use Rattle.sstable_blocks.specs.JoinedLaws.{before_le, before_next}
+use Rattle.sst_merge.proofs.Moving.BlockPlaces.{drop_first, inside_joined, joined_item, take_last}
 
 -- an item of a mapped list
 pub map_item : {A B : Type 0} (f : A → B) (xs : List A) (i : ℕ) (x : A) → i < length xs → x ≡ get_or xs i x → slice_get (map f xs) i ≡ Some (f x)

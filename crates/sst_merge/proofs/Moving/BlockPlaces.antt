@@ -25,29 +25,6 @@ module _ {X : Type 0} where
       ap (slice_get (ys ++ joined blocks)) (let n = length-append ys (joined (take b blocks)) in let d : length (ys ++ joined (take b blocks)) + a ≡ length ys + (length (joined (take b blocks)) + a) = omega (arith, n) in d)
       ∙ after_append ys (joined blocks) (length (joined (take b blocks)) + a) ∙ joined_item blocks b a xs x here at
 
-  -- no item is before the first block
-  pub before_none : (blocks : List (List X)) → length (joined (take 0 blocks)) ≡ 0
-  before_none [] = refl
-  before_none (b ∷ bs) = refl
-
-  -- how many items are before the next block
-  pub before_next : (blocks : List (List X)) (b : ℕ) (xs : List X) → slice_get blocks b ≡ Some xs → length (joined (take (suc b) blocks)) ≡ length (joined (take b blocks)) + length xs
-  before_next [] b xs here = absurd (cc)
-  before_next (ys ∷ blocks) zero xs here =
-      (let e : ys ≡ xs = some_is ys xs here in let n = length-append ys (joined (take 0 blocks)) in let d = ap length e in let z = before_none blocks in omega (arith, n, d, z))
-  before_next (ys ∷ blocks) (suc b) xs here =
-      (let k = before_next blocks b xs here in let m = length-append ys (joined (take (suc b) blocks)) in let n = length-append ys (joined (take b blocks)) in omega (arith, k, m, n))
-
-  pub before_le : (blocks : List (List X)) (b c : ℕ) → b ≤ c → length (joined (take b blocks)) ≤ length (joined (take c blocks))
-  before_le [] zero zero less = omega arith
-  before_le [] zero (suc c) less = omega arith
-  before_le [] (suc b) zero less = absurd (omega (arith, less))
-  before_le [] (suc b) (suc c) less = omega arith
-  before_le (ys ∷ blocks) zero c less = omega arith
-  before_le (ys ∷ blocks) (suc b) zero less = absurd (omega (arith, less))
-  before_le (ys ∷ blocks) (suc b) (suc c) less =
-      (let k = before_le blocks b c (omega (arith, less)) in let m = length-append ys (joined (take b blocks)) in let n = length-append ys (joined (take c blocks)) in omega (arith, k, m, n))
-
   pub before_all : (blocks : List (List X)) (b : ℕ) → length blocks ≤ b → length (joined (take b blocks)) ≡ length (joined blocks)
   before_all blocks b more = ap (λ bs. length (joined bs)) (take_all b blocks more)
 

@@ -8,7 +8,7 @@ use Rattle.sstable_blocks.specs.Blocks.{IsNotEmpty, joined}
 use Rattle.sst_merge.specs.MovableBlocks.{entries_before}
 use Rattle.sst_merge.specs.MovableTables.{later_starts, starts_from}
 use Rattle.sst_merge.specs.Moved.{begins_block}
-use Rattle.sst_merge.proofs.Moving.BlockPlaces.{before_none}
+use Rattle.sstable_blocks.specs.JoinedLaws.{before_none}
 use Rattle.sst_merge.proofs.Merging.CutSteps.{count_no, count_yes}
 
 starts_here : (starts : List ℕ) (start place : ℕ) → start ≡ place → begins_block (start ∷ starts) place ≡ suc (begins_block starts place)
@@ -22,7 +22,7 @@ none_before : (blocks : List (List Entry)) (from place : ℕ) → place < from �
 none_before [] from place less = refl
 none_before (b ∷ bs) from place less = not_here (starts_from (from + length b) bs) from place (λ e. omega (arith, e, less)) ∙ none_before bs (from + length b) place (omega (arith, less))
 
--- nor behind the last
+-- nor after the last
 none_after : (blocks : List (List Entry)) (from : ℕ) → AllByRecursion IsNotEmpty blocks → begins_block (starts_from from blocks) (from + length (joined blocks)) ≡ 0
 none_after [] from some = refl
 none_after (b ∷ bs) from some =

@@ -31,7 +31,8 @@ use Rattle.sst_merge.specs.Stored.{MayFailAnyTime, reported}
 use Rattle.sst_merge.specs.TableReads.{passes_ordered}
 use Rattle.sst_merge.proofs.Moving.BlockEnds.{back_at, back_before, back_block, back_ends, back_held, back_item, back_more, back_none, drop_zero, front_at, front_ends, front_held, front_item, front_more, front_none, left_from, left_later, left_up_to, left_same, none_at_end, none_earlier, none_same, some_in}
 use Rattle.sst_merge.proofs.Moving.BlockCounts.{stops}
-use Rattle.sst_merge.proofs.Moving.BlockPlaces.{before_all, before_none}
+use Rattle.sstable_blocks.specs.JoinedLaws.{before_none}
+use Rattle.sst_merge.proofs.Moving.BlockPlaces.{before_all}
 
 -- what holds of a value that may be known
 pub for_known : {A : Type 0} (P : A → Type 0) (o : Option A) → ((a : A) → o ≡ Some a → P a) → IfSome o P
@@ -188,7 +189,7 @@ front_opened blocks b n items views o here is less took whole = record {
   place_is = front_at blocks b items here n views (end_in o) is took less;
 }
 
--- the front behind all blocks
+-- the front after all blocks
 pub front_behind : (blocks : List (List Entry)) (b place : ℕ) → place ≡ length (joined blocks) → IsFrontAt blocks place None
 front_behind blocks b place is = record { holds = tt; whole = tt; place_is = sym is }
 

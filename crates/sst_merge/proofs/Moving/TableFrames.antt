@@ -17,7 +17,8 @@ use Rattle.sst_merge.specs.MovableTables.{AsksByEnds, AsksWhere, GoesBack, GoesF
 use Rattle.sst_merge.specs.Moved.{AsksByPlace, Moved, back_frames, begins_block, front_frames, seek_frames, seek_upper_frames}
 use Rattle.sst_merge.proofs.Moving.BlockCounts.{stops}
 use Rattle.sst_merge.proofs.Moving.BlockEnds.{back_block, front_none}
-use Rattle.sst_merge.proofs.Moving.BlockPlaces.{before_all, before_none, inside_joined}
+use Rattle.sstable_blocks.specs.JoinedLaws.{before_none}
+use Rattle.sst_merge.proofs.Moving.BlockPlaces.{before_all, inside_joined}
 use Rattle.sst_merge.proofs.Moving.BlockStarts.{none_at_first, none_behind, none_inside, one_at}
 use Rattle.sstable_blocks.specs.BetweenLaws.{item_found}
 use Rattle.sst_merge.proofs.Moving.TableEnds.{are_blocks, are_read, as_many, blocks_same, for_known, if_ok, none_passed, of_known, sought_count, stop_at, window_at, within_here}

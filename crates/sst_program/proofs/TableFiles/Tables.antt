@@ -51,7 +51,7 @@ table-of config config' n items blocks h old start after count len cut same begi
   len = t.len_is;
 }
 
--- a block of a front that does not fit behind the blocks before it
+-- a block of a front that does not fit after the blocks before it
 pub too-long : (config config' : RunConfig) (n : ℕ) (blocks : List (List Entry)) (block behind rest items : List Entry) → config' ≡ config → joined blocks ++ rest ≡ items → rest ≡ block ++ behind
     → AreFull n blocks → 1 ≤ length block → length block ≤ n
     → (FrameFits (sst_form config') (length (block_frames (sst_form config') blocks)) block → ⊥) → IsTooLong config n items

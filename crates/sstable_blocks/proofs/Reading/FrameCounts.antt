@@ -55,7 +55,7 @@ module _ (c : Hashes) (h : RunHandles) (f f' a a' : ℕ) where
           ap (λ r. frames_after r (λ x. frames_by_index c all x h.index)) (read_on all payload ∙ ap (λ r. r >>= (λ x. Ok (Some x))) refused) in
           (omega (arith, asked, count), λ _ _. omega (arith, asked, count, none))
 
-      -- behind one that passes index and blocks are read
+      -- after one that passes index and blocks are read
       pub filter_passes : (b b' : Option (List ℕ)) (f'' a'' : ℕ) (x : Filter) (P : Type 0) → b' ≡ b → a' ≡ a + 1 → f ≤ f' → f' ≤ f'' → IfSome b (λ all. payload_at c types.Filter all g ≡ Ok p)
           → filter_at p ≡ Ok x → IfSome b' (λ all. AsksFor f' f'' a' a'' P (frames_by_index c all (Some x) h.index)) → IfSome b (λ all. AsksFor f f'' a a'' P (check_frames c all h))
       unfolding check_frames

@@ -98,7 +98,7 @@ abbrev pub next_ends : {X : Type 0} → Bool → Ends X → List X → Ends X
 next_ends b c items = record { near = items; lo = lo_at b c.lo; hi = hi_at b c.hi; far = c.far }
 
 module _ {X : Type 0} (b : Bool) (f : ℕ → Result (List X) Error) where
-  -- what is left, where the block at the end has no item left: the next block and what is behind it
+  -- what is left, where the block at the end has no item left: the next block and what is after it
   left_split : (c : Ends X) → c.near ≡ [] → c.lo < c.hi
       → reads_left b f c ≡ seen_from b (reads_of (f (index_at b c.lo c.hi))) ++ (seen_from b (reads_between f (lo_at b c.lo) (hi_at b c.hi)) ++ seen_from b (map Ok c.far))
   left_split c none more =

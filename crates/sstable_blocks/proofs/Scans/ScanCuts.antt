@@ -18,7 +18,7 @@ use Rattle.sst_block_core.specs.Scan.{Scan}
 use Rattle.sst_block_core.specs.Window.{Window, Answer, items_left, whole, passes, passes_cmp, count_passed, seek, seek_exclusive, seek_upper, seek_upper_exclusive}
 use Rattle.sst_block_core.specs.Handles.{Handle, handles}
 use Rattle.sstable_blocks.specs.Scans.{KeyRange, is_before, is_up_to, first_entry, end_entry, within}
-use Rattle.sstable_blocks.proofs.Scans.ScanWindows.{within_between}
+use Rattle.sstable_blocks.specs.KeyRangeLaws.{within_between}
 use Rattle.sstable_blocks.specs.BoundLaws.{passed_below, passed_up_to, count_none, count_all}
 
 -- what a seek leaves

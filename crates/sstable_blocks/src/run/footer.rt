@@ -131,7 +131,7 @@ pub fn read_table_footer<S: SizedSource>(alloc: Global, source: &mut S) -> Resul
     read_footer(alloc, source, len)
 }
 
-/// Ends a table file behind the run of these handles: writes the footer, and waits until all is
+/// Ends a table file after the run of these handles: writes the footer, and waits until all is
 /// where it stays.
 ///
 /// # Errors

@@ -273,8 +273,8 @@ impl<'r, R: LockFiles> NewFile<'r, R> {
     }
 
     /// Renames the file over the one of its name, and syncs the folder, so that the rename lasts.
-    /// Where the folder cannot be opened or synced nothing is told: the file is whole under either
-    /// name, but after a power cut it may be the old one that is there.
+    /// Where the folder cannot be opened or synced, no error is returned: the file is whole under
+    /// either name, but after a power cut it may be the old one that is there.
     ///
     /// # Errors
     ///

@@ -35,7 +35,7 @@ use sst_block_core::table::data_block::{DataBlockParsedItem, DataBlockRef};
 use sst_block_core::table::index_block::IndexBlockRef;
 use std::alloc::Global;
 
-/// Returns the payload of a frame in bytes, which begins behind its header. Nothing is tested.
+/// Returns the payload of a frame in bytes, which begins after its header. Nothing is tested.
 #[tactic(auto, using(crate::specs::PointLaws::payload_range), unfolding(crate::specs::Opened::payload_in))]
 pub fn payload_at<'a>(bytes: &'a [u8], handle: &BlockHandle) -> &'a [u8]
     requires { IsFrameRange bytes.now handle.now }

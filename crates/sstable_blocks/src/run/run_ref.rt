@@ -32,7 +32,7 @@ use std::marker::{Model, PhantomData};
 
 /// A sound run over bytes that it borrows, such as a mapped file or the pages of a cache. It is
 /// read without checks and checksums, nothing is copied, no memory is taken, and no read fails.
-/// What it gives borrows these bytes, and may be kept as long as they are lent. The handles are
+/// What it gives borrows these bytes, and may be kept as long as they are borrowed. The handles are
 /// kept.
 ///
 /// Clauses see its bytes and its handles, which are a sound run.

@@ -113,7 +113,7 @@ impl MemorySource {
         self.bytes
     }
 
-    /// Returns the bytes of the run, which are lent.
+    /// Returns the bytes of the run, which are borrowed.
     pub fn bytes(&self) -> &Slice
         ensures { result.now ≡ self.now.inner }
     {

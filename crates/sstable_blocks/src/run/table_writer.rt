@@ -74,7 +74,7 @@ pub trait TableWriter<T: AsEntry>: Sized + Drop {
         ensures cause { IfErr result (IsWriteRefusal ((kind (so_far self).form).fits
             ((so_far self).blocks ++ map T.entry items.now ∷ []) → ⊥)) };
 
-    /// Ends the table: writes what is behind its blocks. Returns the handles for its footer, and
+    /// Ends the table: writes what is after its blocks. Returns the handles for its footer, and
     /// the writer. A block was written.
     ///
     /// # Errors

@@ -3,5 +3,5 @@ pub use sst_base::table::block::{Block, BlockHandle, BlockOffset, BlockType, Hea
 pub use sst_block_core::BlockItem;
 pub use sst_block_core::table::block::{
     Decodable, Decoder, Encodable, Encoder, ParsedItem, Trailer, binary_index, bound, check,
-    decoder, encoder, hash_index, heads, key_ranges, trailer,
+    decoder, encoder, hash_index, heads, intervals, key_ranges, trailer,
 };

@@ -105,7 +105,7 @@ impl<'a, Item: Decodable<Parsed>, Parsed: ParsedItem<Item> + Drop> Intervals<'a,
         Some(self.take_back(&mut ends.back))
     }
 
-    /// Moves the front to the first item behind a bound. Returns whether an item is
+    /// Moves the front to the first item after a bound. Returns whether an item is
     /// left, and the first has the needle as its key.
     #[inline(always)]
     pub fn seek_front(&mut self, ends: &mut Ends, bound: &Bound<'_>) -> bool
@@ -134,7 +134,7 @@ impl<'a, Item: Decodable<Parsed>, Parsed: ParsedItem<Item> + Drop> Intervals<'a,
         }
     }
 
-    /// Moves the back to the first item behind a bound, which is left out. Returns whether an
+    /// Moves the back to the first item after a bound, which is left out. Returns whether an
     /// item is left, and the last has the needle as its key.
     #[inline(always)]
     pub fn seek_back(&mut self, ends: &mut Ends, bound: &Bound<'_>) -> bool

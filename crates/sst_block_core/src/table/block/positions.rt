@@ -49,7 +49,7 @@ impl<'a, Item: Decodable<Parsed>, Parsed: ParsedItem<Item> + Drop> Intervals<'a,
         Some(self.take(&mut at))
     }
 
-    /// Decodes the first item behind a bound, if there is one.
+    /// Decodes the first item after a bound, if there is one.
     #[inline(always)]
     pub(crate) fn first_behind(&mut self, bound: &Bound<'_>) -> Option<Parsed>
         requires { IsOrdered Item.kind self.old.list.items }

@@ -60,7 +60,7 @@ impl<'a, Item: Decodable<Parsed>, Parsed: ParsedItem<Item>> Intervals<'a, Item, 
         left
     }
 
-    /// Returns how many heads a bound passes: the first item behind it is in the
+    /// Returns how many heads a bound passes: the first item after it is in the
     /// interval before, or the next head.
     #[inline(always)]
     pub(crate) fn heads_passed(&mut self, bound: &Bound<'_>) -> usize
@@ -87,7 +87,7 @@ impl<'a, Item: Decodable<Parsed>, Parsed: ParsedItem<Item>> Intervals<'a, Item, 
 }
 
 impl<'a, Item: Decodable<Parsed>, Parsed: ParsedItem<Item> + Drop> Intervals<'a, Item, Parsed> {
-    // The first place, from one on and before an end, whose item is behind a bound, with that
+    // The first place, from one on and before an end, whose item is after a bound, with that
     // item; or the end. No head is among these places. The bound passes the head before them, which
     // shares `alike` bytes with the needle.
     #[inline(always)]
@@ -152,7 +152,7 @@ impl<'a, Item: Decodable<Parsed>, Parsed: ParsedItem<Item> + Drop> Intervals<'a,
         (at, head, alike)
     }
 
-    // The first place of interval j whose item is behind a bound, with that item; or the end of
+    // The first place of interval j whose item is after a bound, with that item; or the end of
     // the interval. The bound passes its head.
     #[inline(always)]
     fn seek_in_interval(
@@ -238,7 +238,7 @@ impl<'a, Item: Decodable<Parsed>, Parsed: ParsedItem<Item> + Drop> Intervals<'a,
         (at, self.head_with_key(at, needle))
     }
 
-    /// Returns the place of the first item behind a bound, with that item if its key is
+    /// Returns the place of the first item after a bound, with that item if its key is
     /// the needle.
     #[inline(always)]
     pub(crate) fn seek_key(&mut self, bound: &Bound<'_>) -> (Place, Option<Parsed>)
@@ -271,7 +271,7 @@ impl<'a, Item: Decodable<Parsed>, Parsed: ParsedItem<Item> + Drop> Intervals<'a,
         (at, self.head_with_key(at, bound.needle))
     }
 
-    /// Returns the place of the first item behind a bound, with that item where it was
+    /// Returns the place of the first item after a bound, with that item where it was
     /// decoded. Where each item is a head, none is decoded.
     #[inline(always)]
     pub(crate) fn seek_item(&mut self, bound: &Bound<'_>) -> (Place, Option<Candidate<Parsed>>)

@@ -30,7 +30,7 @@ impl<'a, Item: Decodable<Parsed>, Parsed: ParsedItem<Item> + Drop> Decoder<'a, I
         self.ends.front.index < self.intervals.item_count()
     }
 
-    /// Moves the front to the first item behind a bound. Returns that item where it was
+    /// Moves the front to the first item after a bound. Returns that item where it was
     /// decoded.
     #[inline(always)]
     pub fn seek_item(&mut self, bound: &Bound<'_>) -> Option<Candidate<Parsed>>
@@ -55,7 +55,7 @@ impl<'a, Item: Decodable<Parsed>, Parsed: ParsedItem<Item> + Drop> Decoder<'a, I
         candidate
     }
 
-    /// Moves the back after the first item behind a bound, or after the last item.
+    /// Moves the back after the first item after a bound, or after the last item.
     #[inline(always)]
     pub fn seek_upper_item(&mut self, bound: &Bound<'_>)
         requires { IsOrdered Item.kind self.old.window.list }
@@ -91,7 +91,7 @@ impl<'a, Item: Decodable<Parsed>, Parsed: ParsedItem<Item> + Drop> Decoder<'a, I
         Some(held.item)
     }
 
-    /// Moves the front to the first item behind a bound. Returns whether an item is
+    /// Moves the front to the first item after a bound. Returns whether an item is
     /// left, and the first has the needle as its key.
     #[inline(always)]
     pub fn seek_key(&mut self, bound: &Bound<'_>) -> bool
@@ -113,7 +113,7 @@ impl<'a, Item: Decodable<Parsed>, Parsed: ParsedItem<Item> + Drop> Decoder<'a, I
         self.intervals.seek_front(&mut self.ends, bound)
     }
 
-    /// Moves the back to the first item behind a bound, which is left out. Returns whether an
+    /// Moves the back to the first item after a bound, which is left out. Returns whether an
     /// item is left, and the last has the needle as its key.
     #[inline(always)]
     pub fn seek_upper_key(&mut self, bound: &Bound<'_>) -> bool

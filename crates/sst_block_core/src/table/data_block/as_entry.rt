@@ -1,4 +1,4 @@
-//! What stands for an entry.
+//! What can be read as an entry.
 ghost use Rattle.std.specs.Prelude.{◌≡◌, ◌↔◌, ◌^◌, ◌≤◌, [], length, map, OnOk, OnErr, IfErr};
 ghost use Rattle.std.specs.Prelude.{IsTrue, None};
 ghost use Rattle.sst_base.specs.Entry.{Entry, IsEntry};

@@ -29,7 +29,7 @@ use std::marker::{Model, PhantomData};
 
 /// A block of entries over bytes that it borrows, such as a page of a cache: a data block without a
 /// header, whose hash index, if it has one, is made by `H`. What it gives borrows these bytes, and
-/// may be kept as long as they are lent.
+/// may be kept as long as they are borrowed.
 ///
 /// Clauses see its payload, its entries (those of tombstones without values), its restart interval
 /// and its number of stored buckets. The payload is always the encoding of these entries: see

@@ -38,8 +38,8 @@ const MAX_VALUE_LEN: usize = 4_294_967_295;
 #[derive(Drop)]
 pub struct EntryView<'a> {
     // Begins with the bytes that the key shares with the head of its restart interval, none where
-    // it is held whole. Here and below, of an entry of a block, what follows in the payload is lent
-    // too: a few bytes are copied faster where more follow.
+    // it is held whole. Here and below, of an entry of a block, what follows in the payload is
+    // borrowed too: a few bytes are copied faster where more follow.
     prefix: &'a [u8],
     // Begins with the key's own bytes.
     rest: &'a [u8],

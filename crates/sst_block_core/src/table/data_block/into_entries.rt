@@ -113,7 +113,7 @@ impl<H: BlockHash> IntoEntries<H> {
         EntryView::new(self.block.as_slice().as_slice(), item)
     }
 
-    // Moves the front to the first entry behind a bound. Returns whether an entry is
+    // Moves the front to the first entry after a bound. Returns whether an entry is
     // left, and the first has the needle as its key.
     #[inline(always)]
     fn seek_front(&mut self, bound: &Bound<'_>) -> bool
@@ -137,7 +137,7 @@ impl<H: BlockHash> IntoEntries<H> {
         answer
     }
 
-    // Moves the back to the first entry behind a bound, which is left out. Returns whether an
+    // Moves the back to the first entry after a bound, which is left out. Returns whether an
     // entry is left, and the last has the needle as its key.
     #[inline(always)]
     fn seek_back(&mut self, bound: &Bound<'_>) -> bool

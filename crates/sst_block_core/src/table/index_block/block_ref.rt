@@ -22,7 +22,7 @@ use std::alloc::Global;
 use std::marker::Model;
 
 /// A block of handles over bytes that it borrows, such as a page of a cache: an index block without
-/// a header. What it gives borrows these bytes, and may be kept as long as they are lent.
+/// a header. What it gives borrows these bytes, and may be kept as long as they are borrowed.
 ///
 /// Clauses see its payload, its handles and its restart interval. The payload is always the
 /// encoding of these handles: see [`IndexBlockRef::as_slice`].

@@ -42,7 +42,7 @@ impl<'a> IndexBlockRef<'a> {
     }
 
     /// Returns how many handles a bound passes, which is the index of the first handle
-    /// behind it. Takes no memory. What is examined is added to `steps`: at least a head, and at
+    /// after it. Takes no memory. What is examined is added to `steps`: at least a head, and at
     /// most as many heads as their number has binary digits, and the handles of one restart
     /// interval where not each handle is a head.
     pub fn position(&self, bound: &Bound<'_>, steps: &mut Steps) -> usize
@@ -75,7 +75,7 @@ impl<'a> IndexBlockRef<'a> {
 
 impl IndexBlock {
     /// Returns how many handles a bound passes, which is the index of the first handle
-    /// behind it, as [`IndexBlockRef::position`] does.
+    /// after it, as [`IndexBlockRef::position`] does.
     pub fn position(&self, bound: &Bound<'_>, steps: &mut Steps) -> usize
         ensures value { result
             ≡ count_passed handles bound.now.needle.now bound.now.from self.now.items }

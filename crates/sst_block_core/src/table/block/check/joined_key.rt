@@ -43,7 +43,7 @@ impl JoinedKey {
         }
     }
 
-    // Makes room for a key of this length, behind the bytes that are there. Returns `None` if an
+    // Makes room for a key of this length, after the bytes that are there. Returns `None` if an
     // allocation fails.
     #[cold]
     #[inline(never)]
