@@ -2,3 +2,4 @@
 pub mod Lists
 pub mod Held
 pub mod Steps
+pub mod Faults

@@ -2,7 +2,7 @@
 use Rattle.std.specs.Prelude.{◌≡◌, ◌+◌, ◌<◌, ℕ, List, length, Option, None, IfSome, Result, IfErr}
 use Rattle.sstable_blocks.specs.Prelude.{Entry, Handle}
 use Rattle.sstable_blocks.specs.Results.{Error, Io}
-use Rattle.sst_parts.specs.PartScans.{BeginsPartScan, IsSamePartScan, PartScanParts, parts_left}
+use Rattle.sst_parts.specs.PartScans.{BeginsPartScan, IsSamePartScan, parts_left}
 use Rattle.sst_parts.specs.declared.any_scan.AnyScan.{AnyScan}
 use Rattle.sst_parts.specs.declared.any_scan.AnyScan.TheVariants as scans
 use Rattle.sst_parts.specs.declared.any_ref_scan.AnyRefScan.{AnyRefScan}
@@ -10,7 +10,7 @@ use Rattle.sst_parts.specs.declared.any_ref_scan.AnyRefScan.TheVariants as refs
 use Rattle.sst_parts.specs.declared.any_table.AnyTable.{AnyTable}
 use Rattle.sst_parts.specs.declared.any_table.AnyTable.TheVariants as tables
 use Rattle.sstable_blocks.specs.RunReading.{Hashes}
-use Rattle.sstable_blocks.specs.Scans.{BeginsTableScan, GivesFirst, GivesLast, IsSameScan, KeyRange, Read, ScanParts, most_left, reads_left}
+use Rattle.sstable_blocks.specs.Scans.{BeginsTableScan, GivesFirst, GivesLast, IsSameScan, KeyRange, Read, most_left, reads_left}
 use Rattle.sstable_blocks.specs.Sources.{KeepsSource}
 use Rattle.sstable_blocks.specs.Tallies.{Adds, CountsFirst, CountsLast, least_taken, most_taken}
 

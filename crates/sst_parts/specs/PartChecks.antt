@@ -46,7 +46,7 @@ whole_with last before run = record {
 abbrev pub passed_on : Passed → Handle → RunSummary → Passed
 passed_on s h run = record { offset = s.offset + h.size; last = Some h; whole = whole_with s.last s.whole run }
 
--- the run of a part, behind those before: the order across parts, then the end
+-- the run of a part, after those before: the order across parts, then the end
 abbrev pub check_ends : Passed → Handle → RunSummary → Result Passed Error
 check_ends s h run = do
   order ← demand (begins_after s.last run.first_key run.first_seqno) OutOfOrder

@@ -88,15 +88,15 @@ IsPartFrom c part (Copied bytes end) = IsStoredPart c bytes part (record end { o
 abbrev pub AppendsFileFrom : Hashes → List PartOrigin → Option (List ℕ) → Option (List ℕ) → HandleParts → Type 0
 AppendsFileFrom c closed old new top = (parts : List (List (List Entry))) → AllZip (IsPartFrom c) parts closed → IsOrdered entries (joined (joined parts)) → AppendsPartedFile c parts old new top
 
--- the table file of blocks fits behind parts that were closed
+-- the table file of blocks fits after parts that were closed
 abbrev pub ClosedEnds : Form → List PartOrigin → List (List Entry) → Type 0
 ClosedEnds f closed part = (texts : List (List ℕ)) (tops : List Handle) → AreClosedFiles f 0 closed texts tops → PartFileFits f (length (joined texts)) part
 
--- the end of bytes behind them fits 64 bits
+-- the end of bytes after them fits 64 bits
 abbrev pub CopyFits : Form → List PartOrigin → List ℕ → Type 0
 CopyFits f closed bytes = (texts : List (List ℕ)) (tops : List Handle) → AreClosedFiles f 0 closed texts tops → length (joined texts) + length bytes < 2 ^ 64
 
--- the index of parts that were closed fits behind them
+-- the index of parts that were closed fits after them
 abbrev pub ClosedTopFits : Form → List PartOrigin → Type 0
 ClosedTopFits f closed = (texts : List (List ℕ)) (tops : List Handle) → AreClosedFiles f 0 closed texts tops → PartFits (length (joined texts)) (index_payload tops f.config.index_interval)
 
@@ -136,7 +136,7 @@ pub record WritesBlock {W : Type 0} (old new : PartsSoFar W) (block : List Entry
   pub closed : new.closed ≡ closed_before old.sizes old.closed old.current
   pub current : new.current ≡ current_before old.sizes old.current ++ block ∷ []
 
--- bytes were written as a part more, behind the current one, where that has blocks
+-- bytes were written as a part more, after the current one, where that has blocks
 pub record WritesPart {W : Type 0} (old new : PartsSoFar W) (bytes : List ℕ) (end : Handle) : Type 0 where
   pub config : new.config ≡ old.config
   pub sizes : new.sizes ≡ old.sizes
@@ -144,7 +144,7 @@ pub record WritesPart {W : Type 0} (old new : PartsSoFar W) (bytes : List ℕ) (
   pub closed : new.closed ≡ parts_so_far old ++ Copied bytes end ∷ []
   pub current : new.current ≡ []
 
--- one more block fits: the part that it does not fit into any more, and its frame behind those of the part that it is
+-- one more block fits: the part that it does not fit into any more, and its frame after those of the part that it is
 -- added to
 pub record BlockFits {W : Type 0} (f : Form) (w : PartsSoFar W) (block : List Entry) : Type 0 where
   pub closes : is_full w.sizes w.current ≡ true → ClosedEnds f w.closed w.current
@@ -154,7 +154,7 @@ pub record BlockFits {W : Type 0} (f : Form) (w : PartsSoFar W) (block : List En
 abbrev pub CurrentFits : {W : Type 0} → Form → PartsSoFar W → Type 0
 CurrentFits f w = 1 ≤ length w.current → ClosedEnds f w.closed w.current
 
--- a copy fits: the current part, and the bytes behind it
+-- a copy fits: the current part, and the bytes after it
 pub record CopiedPartFits {W : Type 0} (f : Form) (w : PartsSoFar W) (bytes : List ℕ) : Type 0 where
   pub last : CurrentFits f w
   pub copy : CopyFits f (parts_so_far w) bytes

@@ -15,7 +15,7 @@ pub record IsCutInto (sizes : PartSizes) (blocks : List (List Entry)) (closed : 
   pub some : 1 ≤ length last
   pub cut : AreCut sizes closed last
 
--- parts fit a table: the run of each, its table file behind those before, and the index of all
+-- parts fit a table: the run of each, its table file after those before, and the index of all
 pub record PartedFits (f : Form) (parts : List (List (List Entry))) : Type 0 where
   pub runs : AllByRecursion (RunFits f) parts
   pub files : (front rest : List (List (List Entry))) (part : List (List Entry)) → parts ≡ front ++ part ∷ rest → PartEnds f front part

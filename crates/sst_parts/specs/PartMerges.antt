@@ -1,15 +1,19 @@
 -- The merge of a newer source into a parted table, whose parts are copied where nothing else overlaps them.
-use Rattle.std.specs.Prelude.{◌≡◌, ℕ, ◌+◌, ◌<◌, Bool, true, false, not, List, [], ◌∷◌, ◌++◌, map, Option, Some, None, IfSome, Ok}
+use Rattle.std.specs.Prelude.{◌≡◌, ◌⊎◌, ℕ, ◌+◌, ◌<◌, Bool, true, false, not, List, [], ◌∷◌, ◌++◌, length, map, Option, Some, None, IfSome, Ok}
 use Rattle.std.specs.List.{AllZip}
 use Rattle.std.specs.Ordering.{is_lt}
 use Rattle.sstable_blocks.specs.Prelude.{Entry, Handle, entries, handles, plain, IsOrdered}
 use Rattle.sstable_blocks.specs.Blocks.{joined}
 use Rattle.sstable_blocks.specs.Lookup.{IsEnd}
+use Rattle.sstable_blocks.specs.Results.{Error, Io, Memory, OutOfOrder, TooLong}
+use Rattle.sstable_blocks.specs.Run.{Form, form}
 use Rattle.sstable_blocks.specs.RunReading.{Hashes}
+use Rattle.sstable_blocks.specs.Sources.{IsSourceFailure}
+use Rattle.sstable_blocks.specs.Writing.{Follows}
 use Rattle.sst_merge.specs.Merge.{entry_cmp, merge}
-use Rattle.sst_merge.specs.Sources.{Left}
+use Rattle.sst_merge.specs.Sources.{Left, MayGive}
 use Rattle.sst_merge.specs.Stored.{all_keys}
-use Rattle.sst_parts.specs.PartCopies.{IsPartFrom, PartsSoFar, end_entry}
+use Rattle.sst_parts.specs.PartCopies.{BlockFits, CopiedPartFits, IsPartFrom, PartsSoFar, end_entry, known_so_far}
 use Rattle.sst_parts.specs.Parts.{IsStoredPart}
 use Rattle.sst_parts.specs.PartScans.{file_reads}
 
@@ -22,7 +26,7 @@ decoded xs = map plain xs
 abbrev pub MergesTo : List Entry → List Entry → List Entry → List Entry → List Entry → Type 0
 MergesTo xs ys written xs' ys' = (after : List Entry) → merge entry_cmp xs (ys ++ after) ≡ written ++ merge entry_cmp xs' (ys' ++ after)
 
--- is the first of some entries, if there is one, strictly behind the end of a part?
+-- is the first of some entries, if there is one, strictly after the end of a part?
 abbrev pub starts_behind : Handle → List Entry → Bool
 starts_behind end [] = true
 starts_behind end (x ∷ xs) = is_lt (entry_cmp (end_entry end) x)
@@ -41,11 +45,12 @@ Holds c w xs = (parts : List (List (List Entry))) × AllZip (IsPartFrom c) parts
 abbrev pub AddsEntries : {W : Type 0} → Hashes → PartsSoFar W → PartsSoFar W → List Entry → Type 0
 AddsEntries c old new xs = (before : List Entry) → Holds c old before → Holds c new (before ++ xs)
 
--- a copier of the same table
-pub record IsSameCopier {W : Type 0} (old new : PartsSoFar W) : Type 0 where
+-- a copier of the same table, whose writer never fails if it never did
+pub record IsSameCopier {W : Type 0} (never_fails : W → Type 0) (old new : PartsSoFar W) : Type 0 where
   pub config : new.config ≡ old.config
   pub sizes : new.sizes ≡ old.sizes
   pub start : new.start ≡ old.start
+  pub reliable : never_fails old.writer → never_fails new.writer
 
 -- a copier with a block that is not written yet
 abbrev pub with_block : {W : Type 0} → PartsSoFar W → List Entry → PartsSoFar W
@@ -82,7 +87,74 @@ pub record WritesAll {W : Type 0} (c : Hashes) (old new : PartsSoFar W) (xs : Li
 
 -- a file is a part with this handle, and is read as its entries
 pub record IsPartBytes (c : Hashes) (file : List ℕ) (part : List (List Entry)) (h : Handle) : Type 0 where
+  pub named : h.size ≡ length file
   pub stored : IsStoredPart c file part (record h { offset = 0 })
   pub read : file_reads c file all_keys ≡ map Ok (decoded (joined part))
   pub ordered : IsOrdered entries (joined part)
   pub end : IsEnd entries handles (joined part) h
+
+-- how a copier writes blocks
+abbrev pub copier_form : {W : Type 0} → Hashes → PartsSoFar W → Form
+copier_form c w = form c.hash64 c.hash128 w.config
+
+-- a copier refuses entries as a block: they do not follow what is there, or do not fit
+abbrev pub BlockRefused : {W : Type 0} → Hashes → PartsSoFar W → List Entry → Error → Type 0
+BlockRefused c w block e = ((e ≡ OutOfOrder) × (Follows (known_so_far w) block → ⊥)) ⊎ ((e ≡ TooLong) × (BlockFits (copier_form c w) w block → ⊥))
+
+-- a copier refuses a part
+abbrev pub PartRefused : {W : Type 0} → Hashes → PartsSoFar W → List ℕ → Handle → Error → Type 0
+PartRefused c w bytes end e = ((e ≡ OutOfOrder) × (Follows (known_so_far w) (end_entry end ∷ []) → ⊥)) ⊎ ((e ≡ TooLong) × (CopiedPartFits (copier_form c w) w bytes → ⊥))
+
+-- a copier that was reached from another by adding entries refuses the last of them, as a block
+pub record RefusesBlock {W : Type 0} (never_fails : W → Type 0) (c : Hashes) (old : PartsSoFar W) (written : List Entry) (e : Error) : Type 0 where
+  pub reached : PartsSoFar W
+  pub block : List Entry
+  pub same : IsSameCopier never_fails old reached
+  pub added : AddsEntries c old (with_block reached block) written
+  pub why : BlockRefused c reached block e
+
+-- or as a part
+pub record RefusesPart {W : Type 0} (never_fails : W → Type 0) (c : Hashes) (old : PartsSoFar W) (written : List Entry) (e : Error) : Type 0 where
+  pub reached : PartsSoFar W
+  pub front : List Entry
+  pub bytes : List ℕ
+  pub part : List (List Entry)
+  pub end : Handle
+  pub same : IsSameCopier never_fails old reached
+  pub added : AddsEntries c old reached front
+  pub is_part : IsPartBytes c bytes part end
+  pub whole : written ≡ front ++ decoded (joined part)
+  pub why : PartRefused c reached bytes end e
+
+abbrev pub IsRefused : {W : Type 0} → (W → Type 0) → Hashes → PartsSoFar W → List Entry → Error → Type 0
+IsRefused never_fails c old written e = RefusesBlock never_fails c old written e ⊎ RefusesPart never_fails c old written e
+
+-- the first of these entries are refused
+pub record RefusesUpTo {W : Type 0} (never_fails : W → Type 0) (c : Hashes) (old : PartsSoFar W) (xs : List Entry) (e : Error) : Type 0 where
+  pub front : List Entry
+  pub rest : List Entry
+  pub whole : front ++ rest ≡ xs
+  pub refused : IsRefused never_fails c old front e
+
+-- why writing fails: an allocation did, the writer did, or what is written is refused
+abbrev pub IsFault : Type 0 → (Error → Type 0) → Error → Type 0
+IsFault never_fails refused e = (e ≡ Memory) ⊎ (((e ≡ Io) × (never_fails → ⊥)) ⊎ refused e)
+
+-- of the merge of two lists, whatever comes after the second, the first entries are refused
+pub record RefusesMerge {W : Type 0} (never_fails : W → Type 0) (c : Hashes) (old : PartsSoFar W) (xs ys : List Entry) (e : Error) : Type 0 where
+  pub front : List Entry
+  pub rest : List Entry → List Entry
+  pub begins : (after : List Entry) → merge entry_cmp (decoded xs) (decoded ys ++ after) ≡ front ++ rest after
+  pub refused : IsRefused never_fails c old front e
+
+-- why a merge of a newer source with entries fails: a step of the source did, or the writing
+abbrev pub MergeFails : {W : Type 0} → (W → Type 0) → (Error → Type 0) → Hashes → Left Entry → PartsSoFar W → List Entry → Error → Type 0
+MergeFails never_fails may_fail c newer old ys e = MayGive may_fail newer e ⊎ IsFault (never_fails old.writer) (λ e. (xs : List Entry) → newer.list ≡ Some xs → RefusesMerge never_fails c old xs ys e) e
+
+-- or the source of frames did
+abbrev pub PartsFail : {W : Type 0} → Type 0 → Type 0 → (W → Type 0) → (Error → Type 0) → Hashes → Left Entry → PartsSoFar W → List Entry → Error → Type 0
+PartsFail failed reliable never_fails may_fail c newer old ys e = IsSourceFailure failed reliable ⊥ e ⊎ MergeFails never_fails may_fail c newer old ys e
+
+-- why writing all of a source fails
+abbrev pub WritesFail : {W : Type 0} → (W → Type 0) → (Error → Type 0) → Hashes → Left Entry → PartsSoFar W → Error → Type 0
+WritesFail never_fails may_fail c newer old e = MayGive may_fail newer e ⊎ IsFault (never_fails old.writer) (λ e. (xs : List Entry) → newer.list ≡ Some xs → RefusesUpTo never_fails c old (decoded xs) e) e

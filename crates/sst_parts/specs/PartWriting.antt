@@ -133,11 +133,11 @@ pub record PartFileFits (f : Form) (offset : ℕ) (blocks : List (List Entry)) :
   pub size : (bytes : List ℕ) (h : RunHandles) → IsLayout f blocks bytes h → length bytes + 24 < 2 ^ 32
   pub end : (bytes : List ℕ) (h : RunHandles) → IsLayout f blocks bytes h → offset + (length bytes + 24) < 2 ^ 64
 
--- the table file of a part fits behind those of other parts
+-- the table file of a part fits after those of other parts
 abbrev pub PartEnds : Form → List (List (List Entry)) → List (List Entry) → Type 0
 PartEnds f parts part = (texts : List (List ℕ)) (tops : List Handle) → ArePartFiles f 0 parts texts tops → PartFileFits f (length (joined texts)) part
 
--- one more block fits: the part that it does not fit into any more, and its frame behind those of the part that it is
+-- one more block fits: the part that it does not fit into any more, and its frame after those of the part that it is
 -- added to
 pub record NextFits {W : Type 0} (f : Form) (w : PartWriting W) (block : List Entry) : Type 0 where
   pub closes : is_full w.sizes w.current ≡ true → PartEnds f w.parts w.current

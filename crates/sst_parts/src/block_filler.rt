@@ -1,7 +1,8 @@
 //! Entries that are written into a parted table one by one, in blocks of a size.
-ghost use Rattle.std.specs.Prelude.{◌≡◌, ◌∷◌, [], IfOk};
-ghost use Rattle.std.specs.Prelude.{List};
-ghost use Rattle.sst_parts.specs.PartMerges.{AddsEntries, IsPartBytes, IsSameCopier, decoded};
+ghost use Rattle.std.specs.Prelude.{◌≡◌, ◌∷◌, [], IfErr, IfOk, List, length};
+ghost use Rattle.sst_parts.specs.PartMerges.{AddsEntries, BlockRefused, IsFault, IsPartBytes};
+ghost use Rattle.sst_parts.specs.PartMerges.{IsRefused, IsSameCopier, PartRefused, RefusesUpTo};
+ghost use Rattle.sst_parts.specs.PartMerges.{decoded};
 ghost use Rattle.sstable_blocks.specs.Blocks.{joined};
 ghost use Rattle.sstable_blocks.specs.Prelude.{Entry, plain};
 ghost use Rattle.sstable_blocks.specs.RunReading.{hashes};
@@ -18,8 +19,9 @@ fn write_block<H: BlockHash, W: Output + Drop>(
 ) -> Result<PartCopier<H, W>>
     ensures added { IfOk result
         (λ w. AddsEntries (hashes H.hash64 H.hash128) copier w (decoded block.now)) }
-    ensures same { IfOk result (IsSameCopier copier) }
-    ensures reliable { IfOk result (λ w. W.never_fails copier.writer → W.never_fails w.writer) }
+    ensures same { IfOk result (IsSameCopier W.never_fails copier) }
+    ensures cause { IfErr result (IsFault (W.never_fails copier.writer)
+        (BlockRefused (hashes H.hash64 H.hash128) copier block.now)) }
 {
     if block.is_empty() {
         return Ok(copier);
@@ -39,8 +41,10 @@ fn copy_part<H: BlockHash, W: Output + Drop>(
     ensures added { IfOk result (λ w. (blocks : List (List Entry))
         → IsPartBytes (hashes H.hash64 H.hash128) part.now blocks end.now
         → AddsEntries (hashes H.hash64 H.hash128) copier w (decoded (joined blocks))) }
-    ensures same { IfOk result (IsSameCopier copier) }
-    ensures reliable { IfOk result (λ w. W.never_fails copier.writer → W.never_fails w.writer) }
+    ensures same { IfOk result (IsSameCopier W.never_fails copier) }
+    ensures cause { end.now.size ≡ length part.now → IfErr result
+        (IsFault (W.never_fails copier.writer)
+        (PartRefused (hashes H.hash64 H.hash128) copier part.now end.now)) }
 {
     if end.size() as usize != part.len() {
         return Err(Error::BadHandle);
@@ -58,7 +62,7 @@ fn len_of(entry: &InternalValue) -> usize {
 }
 
 /// Writes entries one by one into a parted table, in blocks that end with the entry with which
-/// their keys and values reach a size, and copies parts behind them.
+/// their keys and values reach a size, and copies parts after them.
 ///
 /// Clauses see the copier, with the entries that are not written yet as a block more of its current
 /// part.
@@ -81,10 +85,10 @@ impl<H: BlockHash, W: Output> Model for BlockFiller<H, W> {
 }
 
 impl<H: BlockHash, W: Output + Drop> BlockFiller<H, W> {
-    /// Writes behind what a copier has.
+    /// Writes after what a copier has.
     pub(crate) fn new(alloc: Global, copier: PartCopier<H, W>, size: usize) -> BlockFiller<H, W>
         ensures added { AddsEntries (hashes H.hash64 H.hash128) copier result [] }
-        ensures same { IsSameCopier copier result }
+        ensures same { IsSameCopier W.never_fails copier result }
         ensures writer { result.writer ≡ copier.writer }
     {
         BlockFiller {
@@ -103,8 +107,9 @@ impl<H: BlockHash, W: Output + Drop> BlockFiller<H, W> {
     pub(crate) fn push(self, entry: InternalValue) -> Result<BlockFiller<H, W>>
         ensures added { IfOk result
             (λ f. AddsEntries (hashes H.hash64 H.hash128) self f (plain entry ∷ [])) }
-        ensures same { IfOk result (IsSameCopier self) }
-        ensures reliable { IfOk result (λ f. W.never_fails self.writer → W.never_fails f.writer) }
+        ensures same { IfOk result (IsSameCopier W.never_fails self) }
+        ensures cause { IfErr result (IsFault (W.never_fails self.writer)
+            (IsRefused W.never_fails (hashes H.hash64 H.hash128) self (plain entry ∷ []))) }
     {
         let BlockFiller {
             copier,
@@ -130,8 +135,9 @@ impl<H: BlockHash, W: Output + Drop> BlockFiller<H, W> {
     fn flushed(self) -> Result<BlockFiller<H, W>>
         ensures added { IfOk result
             (λ f. AddsEntries (hashes H.hash64 H.hash128) self f []) }
-        ensures same { IfOk result (IsSameCopier self) }
-        ensures reliable { IfOk result (λ f. W.never_fails self.writer → W.never_fails f.writer) }
+        ensures same { IfOk result (IsSameCopier W.never_fails self) }
+        ensures cause { IfErr result (IsFault (W.never_fails self.writer)
+            (IsRefused W.never_fails (hashes H.hash64 H.hash128) self [])) }
     {
         let BlockFiller {
             copier,
@@ -149,7 +155,7 @@ impl<H: BlockHash, W: Output + Drop> BlockFiller<H, W> {
         })
     }
 
-    /// Copies a part of another table behind what was added.
+    /// Copies a part of another table after what was added.
     ///
     /// # Errors
     ///
@@ -160,8 +166,11 @@ impl<H: BlockHash, W: Output + Drop> BlockFiller<H, W> {
         ensures added { IfOk result (λ f. (blocks : List (List Entry))
             → IsPartBytes (hashes H.hash64 H.hash128) part.now blocks end.now
             → AddsEntries (hashes H.hash64 H.hash128) self f (decoded (joined blocks))) }
-        ensures same { IfOk result (IsSameCopier self) }
-        ensures reliable { IfOk result (λ f. W.never_fails self.writer → W.never_fails f.writer) }
+        ensures same { IfOk result (IsSameCopier W.never_fails self) }
+        ensures cause { IfErr result (λ e. (blocks : List (List Entry))
+            → IsPartBytes (hashes H.hash64 H.hash128) part.now blocks end.now
+            → IsFault (W.never_fails self.writer) (RefusesUpTo W.never_fails
+            (hashes H.hash64 H.hash128) self (decoded (joined blocks))) e) }
     {
         let BlockFiller {
             copier,
@@ -188,8 +197,9 @@ impl<H: BlockHash, W: Output + Drop> BlockFiller<H, W> {
     pub(crate) fn finish(self) -> Result<PartCopier<H, W>>
         ensures added { IfOk result
             (λ w. AddsEntries (hashes H.hash64 H.hash128) self w []) }
-        ensures same { IfOk result (IsSameCopier self) }
-        ensures reliable { IfOk result (λ w. W.never_fails self.writer → W.never_fails w.writer) }
+        ensures same { IfOk result (IsSameCopier W.never_fails self) }
+        ensures cause { IfErr result (IsFault (W.never_fails self.writer)
+            (IsRefused W.never_fails (hashes H.hash64 H.hash128) self [])) }
     {
         let BlockFiller {
             copier,

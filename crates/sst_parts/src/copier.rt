@@ -156,7 +156,7 @@ impl<H: BlockHash, W: Output + Drop> PartCopier<H, W> {
         })
     }
 
-    /// Writes a whole part of another parted table as it is, behind the current part, which is
+    /// Writes a whole part of another parted table as it is, after the current part, which is
     /// closed, if it has blocks. The bytes are those that the handle names in that table, as
     /// [`PartedTable::part_at`](crate::PartedTable::part_at) returns them, and the handle that of
     /// its index. Of the handle the length and the end are kept. Nothing of the bytes is verified

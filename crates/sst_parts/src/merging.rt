@@ -1,12 +1,15 @@
 //! Merging a newer source into a parted table, whose parts are copied where nothing else overlaps
 //! them.
-ghost use Rattle.std.specs.Prelude.{◌≡◌, ◌∷◌, [], IfOk, IfSome, IsOkUnless, List};
-ghost use Rattle.std.specs.Prelude.{Some, length, slice_get};
-ghost use Rattle.sst_parts.specs.PartMerges.{IsPartBytes, IsSameCopier, Merges, decoded};
-ghost use Rattle.sst_parts.specs.PartMerges.{TakesLesser, WritesAll, goes_before, starts_behind};
+ghost use Rattle.std.specs.Prelude.{◌≡◌, ◌⊎◌, ◌<◌, ◌∷◌, [], IfErr, IfOk, IfSome, IsOkUnless};
+ghost use Rattle.std.specs.Prelude.{List, OnOk, Some, length, slice_get};
+ghost use Rattle.sst_merge.specs.Sources.{MayGive, MayMeet, MeetsNoMore};
+ghost use Rattle.sst_parts.specs.PartMerges.{IsPartBytes, IsSameCopier, MergeFails, Merges};
+ghost use Rattle.sst_parts.specs.PartMerges.{PartsFail, TakesLesser, WritesAll, WritesFail};
+ghost use Rattle.sst_parts.specs.PartMerges.{decoded, goes_before, starts_behind};
 ghost use Rattle.sst_parts.specs.Parts.{IsParted, IsStoredPart};
 ghost use Rattle.sstable_blocks.specs.Blocks.{joined};
 ghost use Rattle.sstable_blocks.specs.Prelude.{Entry, Handle};
+ghost use Rattle.sstable_blocks.specs.Results.{Memory};
 ghost use Rattle.sstable_blocks.specs.RunReading.{hashes};
 ghost use Rattle.sstable_blocks.specs.Sources.{AsksExactly, AsksUpTo, KeepsSource};
 
@@ -23,7 +26,7 @@ use sstable_blocks::{
 use std::alloc::Global;
 use std::ops::Bound;
 
-// Whether an entry sorts strictly behind the end of a part.
+// Whether an entry sorts strictly after the end of a part.
 fn is_behind(end: &KeyedBlockHandle, entry: &InternalValue) -> bool
     ensures { result ≡ starts_behind end.now (entry.now ∷ []) }
 {
@@ -32,7 +35,7 @@ fn is_behind(end: &KeyedBlockHandle, entry: &InternalValue) -> bool
     by_key.then(key.seqno().cmp(&end.seqno())).is_lt()
 }
 
-// Whether what is left of a source begins strictly behind the end of a part, or nothing is left.
+// Whether what is left of a source begins strictly after the end of a part, or nothing is left.
 fn begins_behind<I: Source<InternalValue>>(
     newer: &Head<InternalValue, I>,
     end: &KeyedBlockHandle,
@@ -69,6 +72,10 @@ fn take_lesser<I: Source<InternalValue>, J: Source<InternalValue>>(
 ) -> Result<Option<InternalValue>>
     ensures taken { IfOk result
         (TakesLesser newer.old newer.new part.old part.new) }
+    ensures cause { IfErr result
+        (λ e. MayGive J.may_fail part.old e ⊎ MayGive I.may_fail newer.old e) }
+    ensures no_more { OnOk result
+        (MeetsNoMore newer.old newer.new × MeetsNoMore part.old part.new) }
 {
     if is_first(newer, part) {
         newer.take(alloc)
@@ -87,8 +94,10 @@ fn write_before<H: BlockHash, W: Output + Drop, I: Source<InternalValue>, J: Sou
 ) -> Result<BlockFiller<H, W>>
     ensures merged { IfOk result (λ f. (ys : List Entry) → part.now.list ≡ Some ys
         → Merges (hashes H.hash64 H.hash128) filler f newer.old.list newer.new.list ys ys) }
-    ensures same { IfOk result (IsSameCopier filler) }
-    ensures reliable { IfOk result (λ f. W.never_fails filler.writer → W.never_fails f.writer) }
+    ensures same { IfOk result (IsSameCopier W.never_fails filler) }
+    ensures cause { IfErr result (λ e. (ys : List Entry) → part.now.list ≡ Some ys
+        → MergeFails W.never_fails I.may_fail (hashes H.hash64 H.hash128) newer.old filler ys e) }
+    ensures no_more { OnOk result (MeetsNoMore newer.old newer.new) }
 {
     let mut filler = filler;
     'next: while is_first(newer, part) {
@@ -109,8 +118,11 @@ fn write_merge<H: BlockHash, W: Output + Drop, I: Source<InternalValue>, J: Sour
 ) -> Result<BlockFiller<H, W>>
     ensures merged { IfOk result (λ f. (ys : List Entry) → part.old.list ≡ Some ys
         → Merges (hashes H.hash64 H.hash128) filler f newer.old.list newer.new.list ys []) }
-    ensures same { IfOk result (IsSameCopier filler) }
-    ensures reliable { IfOk result (λ f. W.never_fails filler.writer → W.never_fails f.writer) }
+    ensures same { IfOk result (IsSameCopier W.never_fails filler) }
+    ensures cause { IfErr result (λ e. (ys : List Entry) → part.old.list ≡ Some ys
+        → MayGive J.may_fail part.old e ⊎ MergeFails W.never_fails I.may_fail
+        (hashes H.hash64 H.hash128) newer.old filler ys e) }
+    ensures no_more { OnOk result (MeetsNoMore newer.old newer.new) }
 {
     let mut filler = filler;
     'next: loop {
@@ -129,8 +141,9 @@ fn write_left<H: BlockHash, W: Output + Drop, I: Source<InternalValue>>(
 ) -> Result<BlockFiller<H, W>>
     ensures written { IfOk result (λ f. (xs : List Entry) → newer.old.list ≡ Some xs
         → WritesAll (hashes H.hash64 H.hash128) filler f xs newer.new.list) }
-    ensures same { IfOk result (IsSameCopier filler) }
-    ensures reliable { IfOk result (λ f. W.never_fails filler.writer → W.never_fails f.writer) }
+    ensures same { IfOk result (IsSameCopier W.never_fails filler) }
+    ensures cause { IfErr result (WritesFail W.never_fails I.may_fail (hashes H.hash64 H.hash128)
+        newer.old filler) }
 {
     let mut filler = filler;
     'next: loop {
@@ -149,6 +162,11 @@ fn open_head<'k, H: BlockHash>(
     ensures opened { IfOk result (λ head. (part : List (List Entry)) (end : Handle)
         → IsPartBytes (hashes H.hash64 H.hash128) bytes.now part end
         → head.list ≡ Some (decoded (joined part))) }
+    ensures sound { IfOk result (λ head. (part : List (List Entry)) (end : Handle)
+        → IsPartBytes (hashes H.hash64 H.hash128) bytes.now part end
+        → (e : Error) → MayMeet head e → ⊥) }
+    ensures memory { IfErr result (λ e. (part : List (List Entry)) (end : Handle)
+        → IsPartBytes (hashes H.hash64 H.hash128) bytes.now part end → e ≡ Memory) }
 {
     let copy = bytes.clone()?;
     let scan = scan_of::<H>(alloc, copy, Bound::Unbounded, Bound::Unbounded)?;
@@ -169,8 +187,13 @@ fn merge_head<H: BlockHash, W: Output + Drop, I: Source<InternalValue>, J: Sourc
         → part.old.list ≡ Some (decoded (joined blocks))
         → Merges (hashes H.hash64 H.hash128) filler f newer.old.list newer.new.list
         (joined blocks) []) }
-    ensures same { IfOk result (IsSameCopier filler) }
-    ensures reliable { IfOk result (λ f. W.never_fails filler.writer → W.never_fails f.writer) }
+    ensures same { IfOk result (IsSameCopier W.never_fails filler) }
+    ensures cause { IfErr result (λ e. (blocks : List (List Entry))
+        → IsPartBytes (hashes H.hash64 H.hash128) bytes.now blocks end.now
+        → part.old.list ≡ Some (decoded (joined blocks))
+        → MayGive J.may_fail part.old e ⊎ MergeFails W.never_fails I.may_fail
+        (hashes H.hash64 H.hash128) newer.old filler (joined blocks) e) }
+    ensures no_more { OnOk result (MeetsNoMore newer.old newer.new) }
 {
     let filler = write_before(alloc, newer, part, filler)?;
     if begins_behind(newer, end) {
@@ -192,8 +215,12 @@ fn merge_opened<H: BlockHash, W: Output + Drop, I: Source<InternalValue>>(
         → IsPartBytes (hashes H.hash64 H.hash128) bytes.now part end.now
         → Merges (hashes H.hash64 H.hash128) filler f newer.old.list newer.new.list
         (joined part) []) }
-    ensures same { IfOk result (IsSameCopier filler) }
-    ensures reliable { IfOk result (λ f. W.never_fails filler.writer → W.never_fails f.writer) }
+    ensures same { IfOk result (IsSameCopier W.never_fails filler) }
+    ensures cause { IfErr result (λ e. (part : List (List Entry))
+        → IsPartBytes (hashes H.hash64 H.hash128) bytes.now part end.now
+        → MergeFails W.never_fails I.may_fail (hashes H.hash64 H.hash128) newer.old filler
+        (joined part) e) }
+    ensures no_more { OnOk result (MeetsNoMore newer.old newer.new) }
 {
     match open_head::<H>(alloc, bytes) {
         Ok(mut part) => merge_head(alloc, bytes.as_slice(), end, newer, &mut part, filler),
@@ -201,7 +228,7 @@ fn merge_opened<H: BlockHash, W: Output + Drop, I: Source<InternalValue>>(
     }
 }
 
-// Copies a part, or merges it with the entries of a newer source that do not sort behind its end.
+// Copies a part, or merges it with the entries of a newer source that do not sort after its end.
 fn merge_bytes<H: BlockHash, W: Output + Drop, I: Source<InternalValue>>(
     alloc: Global,
     bytes: &Slice,
@@ -213,8 +240,12 @@ fn merge_bytes<H: BlockHash, W: Output + Drop, I: Source<InternalValue>>(
         → IsPartBytes (hashes H.hash64 H.hash128) bytes.now part end.now
         → Merges (hashes H.hash64 H.hash128) filler f newer.old.list newer.new.list
         (joined part) []) }
-    ensures same { IfOk result (IsSameCopier filler) }
-    ensures reliable { IfOk result (λ f. W.never_fails filler.writer → W.never_fails f.writer) }
+    ensures same { IfOk result (IsSameCopier W.never_fails filler) }
+    ensures cause { IfErr result (λ e. (part : List (List Entry))
+        → IsPartBytes (hashes H.hash64 H.hash128) bytes.now part end.now
+        → MergeFails W.never_fails I.may_fail (hashes H.hash64 H.hash128) newer.old filler
+        (joined part) e) }
+    ensures no_more { OnOk result (MeetsNoMore newer.old newer.new) }
 {
     let is_copied = begins_behind(newer, end);
     if is_copied {
@@ -243,8 +274,14 @@ fn merge_part<H: BlockHash, S: FrameSource, W: Output + Drop, I: Source<Internal
         → IsStoredPart (hashes H.hash64 H.hash128) all part end.now
         → Merges (hashes H.hash64 H.hash128) filler f newer.old.list newer.new.list
         (joined part) [])) }
-    ensures same { IfOk result (IsSameCopier filler) }
-    ensures reliable { IfOk result (λ f. W.never_fails filler.writer → W.never_fails f.writer) }
+    ensures same { IfOk result (IsSameCopier W.never_fails filler) }
+    ensures cause { IfErr result (λ e. IfSome (S.bytes base.old.source) (λ all.
+        (part : List (List Entry))
+        → IsStoredPart (hashes H.hash64 H.hash128) all part end.now
+        → PartsFail (S.failures base.old.source < S.failures base.new.source)
+        (S.is_reliable base.old.source) W.never_fails I.may_fail (hashes H.hash64 H.hash128)
+        newer.old filler (joined part) e)) }
+    ensures no_more { OnOk result (MeetsNoMore newer.old newer.new) }
 {
     stored_part_is_read();
     match base.part_at(alloc, index) {
@@ -284,8 +321,13 @@ fn merge_each<H: BlockHash, S: FrameSource, W: Output + Drop, I: Source<Internal
         → IsParted (hashes H.hash64 H.hash128) parts all base.old.top
         → Merges (hashes H.hash64 H.hash128) filler f newer.old.list newer.new.list
         (joined (joined parts)) [])) }
-    ensures same { IfOk result (IsSameCopier filler) }
-    ensures reliable { IfOk result (λ f. W.never_fails filler.writer → W.never_fails f.writer) }
+    ensures same { IfOk result (IsSameCopier W.never_fails filler) }
+    ensures cause { IfErr result (λ e. IfSome (S.bytes base.old.source) (λ all.
+        (parts : List (List (List Entry)))
+        → IsParted (hashes H.hash64 H.hash128) parts all base.old.top
+        → PartsFail (S.failures base.old.source < S.failures base.new.source)
+        (S.is_reliable base.old.source) W.never_fails I.may_fail (hashes H.hash64 H.hash128)
+        newer.old filler (joined (joined parts)) e)) }
 {
     parted_parts_are_stored();
     // The index is that of the bytes.
@@ -319,8 +361,13 @@ fn merge_all<H: BlockHash, S: FrameSource, W: Output + Drop, I: Source<InternalV
         → IsParted (hashes H.hash64 H.hash128) parts all base.old.top
         → Merges (hashes H.hash64 H.hash128) copier w newer.old.list newer.new.list
         (joined (joined parts)) [])) }
-    ensures same { IfOk result (IsSameCopier copier) }
-    ensures reliable { IfOk result (λ w. W.never_fails copier.writer → W.never_fails w.writer) }
+    ensures same { IfOk result (IsSameCopier W.never_fails copier) }
+    ensures cause { IfErr result (λ e. IfSome (S.bytes base.old.source) (λ all.
+        (parts : List (List (List Entry)))
+        → IsParted (hashes H.hash64 H.hash128) parts all base.old.top
+        → PartsFail (S.failures base.old.source < S.failures base.new.source)
+        (S.is_reliable base.old.source) W.never_fails I.may_fail (hashes H.hash64 H.hash128)
+        newer.old copier (joined (joined parts)) e)) }
 {
     let filler = BlockFiller::new(alloc, copier, block_size);
     let filler = merge_each(alloc, base, handles, newer, filler)?;
@@ -328,18 +375,18 @@ fn merge_all<H: BlockHash, S: FrameSource, W: Output + Drop, I: Source<InternalV
 }
 
 /// Writes the merge of a parted table with a newer source into a copier: the parts of the table in
-/// order, each with the entries of the source that do not sort behind its end. Of equal versions,
+/// order, each with the entries of the source that do not sort after its end. Of equal versions,
 /// those of the same key and sequence number, the source's come first. No version is left out: a
 /// compaction that drops versions is run over the source that is written.
 ///
 /// A part is read by one frame. It is copied as it is, and not decoded, where the source's next
-/// entry sorts strictly behind its end, or none is left: that is one comparison. Otherwise it is
+/// entry sorts strictly after its end, or none is left: that is one comparison. Otherwise it is
 /// opened in memory, and the source's entries up to its first entry are written. Where the next one
-/// sorts behind its end then, it is copied still; otherwise its entries are written with the
+/// sorts after its end then, it is copied still; otherwise its entries are written with the
 /// source's until it has none left. Entries are written in blocks, each of which ends with the
 /// entry with which its keys and values reach `block_size` bytes, or before a part that is copied.
 ///
-/// What sorts behind the last part is left in the source, so that a next table can follow it, or
+/// What sorts after the last part is left in the source, so that a next table can follow it, or
 /// [`write_rest`].
 ///
 /// # Errors
@@ -365,8 +412,13 @@ pub fn merge_parts<H: BlockHash, S: FrameSource, W: Output + Drop, I: Source<Int
         → IsParted (hashes H.hash64 H.hash128) parts all base.old.top
         → Merges (hashes H.hash64 H.hash128) copier w newer.old.list newer.new.list
         (joined (joined parts)) [])) }
-    ensures same { IfOk result (IsSameCopier copier) }
-    ensures reliable { IfOk result (λ w. W.never_fails copier.writer → W.never_fails w.writer) }
+    ensures same { IfOk result (IsSameCopier W.never_fails copier) }
+    ensures cause { IfErr result (λ e. IfSome (S.bytes base.old.source) (λ all.
+        (parts : List (List (List Entry)))
+        → IsParted (hashes H.hash64 H.hash128) parts all base.old.top
+        → PartsFail (S.failures base.old.source < S.failures base.new.source)
+        (S.is_reliable base.old.source) W.never_fails I.may_fail (hashes H.hash64 H.hash128)
+        newer.old copier (joined (joined parts)) e)) }
 {
     match handles_of(alloc, base.index()) {
         Ok(handles) => merge_all(alloc, base, &handles, newer, copier, block_size),
@@ -388,8 +440,9 @@ pub fn write_rest<H: BlockHash, W: Output + Drop, I: Source<InternalValue>>(
 ) -> Result<PartCopier<H, W>>
     ensures written { IfOk result (λ w. (xs : List Entry) → newer.old.list ≡ Some xs
         → WritesAll (hashes H.hash64 H.hash128) copier w xs newer.new.list) }
-    ensures same { IfOk result (IsSameCopier copier) }
-    ensures reliable { IfOk result (λ w. W.never_fails copier.writer → W.never_fails w.writer) }
+    ensures same { IfOk result (IsSameCopier W.never_fails copier) }
+    ensures cause { IfErr result (WritesFail W.never_fails I.may_fail (hashes H.hash64 H.hash128)
+        newer.old copier) }
 {
     let filler = BlockFiller::new(alloc, copier, block_size);
     let filler = write_left(alloc, newer, filler)?;

@@ -1,4 +1,4 @@
-//! The part of a parted table that blocks are written to, behind parts that are closed.
+//! The part of a parted table that blocks are written to, after parts that are closed.
 ghost use Rattle.std.specs.Prelude.{◌≡◌, ◌↔◌, ◌-◌, ◌++◌, ◌∷◌, [], ◌≤◌, IfErr, IfOk, IsErrOf};
 ghost use Rattle.std.specs.Prelude.{IsTrue, List, ℕ};
 ghost use Rattle.std.specs.Prelude.{OnErr, if◌then◌else◌};
@@ -82,7 +82,7 @@ fn is_behind(last: &Option<(&[u8], SeqNo)>, item: &EntryView<'_>) -> bool
     }
 }
 
-// Whether entries can be a block behind a list of blocks, by the key and the sequence number of its
+// Whether entries can be a block after a list of blocks, by the key and the sequence number of its
 // last entry.
 pub(crate) fn fits_behind<T: AsEntry>(last: &Option<(&[u8], SeqNo)>, items: &[T]) -> bool
     ensures { (blocks : List (List Entry))
@@ -96,7 +96,7 @@ pub(crate) fn fits_behind<T: AsEntry>(last: &Option<(&[u8], SeqNo)>, items: &[T]
     }
 }
 
-// Whether the last entry of a part can be behind a list of blocks.
+// Whether the last entry of a part can be after a list of blocks.
 pub(crate) fn end_fits_behind(last: &Option<(&[u8], SeqNo)>, end: &KeyedBlockHandle) -> bool
     ensures { (blocks : List (List Entry))
         → IsLastKey (joined blocks) (option_map (λ e. (e.0.now, e.1)) last.now)
@@ -140,7 +140,7 @@ fn next_part<H: BlockHash, W: Output + Drop>(
     Ok((closed, run))
 }
 
-/// Writes blocks into parts, which it closes by their sizes, behind parts that are closed. What is
+/// Writes blocks into parts, which it closes by their sizes, after parts that are closed. What is
 /// kept are the handles of the blocks and the hashes of the keys of the part that is written, and a
 /// handle of each part before.
 ///

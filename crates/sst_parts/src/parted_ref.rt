@@ -106,7 +106,7 @@ fn summary_in<H: BlockHash>(
 
 /// A parted table over bytes that it borrows, such as a mapped file, which is known to be one: it
 /// is read without checks and checksums, nothing is copied, no memory is taken, and no read fails.
-/// What it gives borrows these bytes, and may be kept as long as they are lent.
+/// What it gives borrows these bytes, and may be kept as long as they are borrowed.
 ///
 /// Clauses see the bytes, the handle of the index of the parts, the handles of the parts, and the
 /// restart interval of that index.

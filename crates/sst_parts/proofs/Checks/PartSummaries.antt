@@ -76,7 +76,7 @@ module _ (c : Hashes) (bytes : List ℕ) where
   parts_count (p ∷ ps) [] stored = absurd stored
   parts_count (p ∷ ps) (h ∷ hs) stored = ap suc (parts_count ps hs stored.1)
 
-  -- behind some parts
+  -- after some parts
   whole_behind : (s : Passed) (g : Handle) (done : List (List Entry)) (parts : List (List (List Entry))) (hs : List Handle) → s.last ≡ Some g → s.whole ≡ whole_of done → 1 ≤ length (joined done) → AllZip (IsStoredPart c bytes) parts hs
       → (passed_parts s hs parts).whole ≡ whole_of (done ++ joined parts)
   whole_behind s g done [] [] last is some stored = is ∙ ap whole_of (sym (append-nil done))

@@ -148,5 +148,13 @@ module _ {W : Type 0} (c : Hashes) where
         merged = subst (λ (vs : List Entry). MergesTo (decoded xs) vs k.written (decoded k.left) (decoded zs)) (sym (decoded-append ys zs)) (merges_more (decoded xs) (decoded ys) k.written (decoded k.left) (decoded zs) k.merged);
       }
 
-pub same_on : {W : Type 0} (a b d : PartsSoFar W) → IsSameCopier a b → IsSameCopier b d → IsSameCopier a d
-same_on a b d p q = record { config = q.config ∙ p.config; sizes = q.sizes ∙ p.sizes; start = q.start ∙ p.start }
+pub same_on : {W : Type 0} (never_fails : W → Type 0) (a b d : PartsSoFar W) → IsSameCopier never_fails a b → IsSameCopier never_fails b d → IsSameCopier never_fails a d
+same_on never_fails a b d p q = record {
+  config = q.config ∙ p.config;
+  sizes = q.sizes ∙ p.sizes;
+  start = q.start ∙ p.start;
+  reliable = λ n. q.reliable (p.reliable n);
+}
+
+pub same_self : {W : Type 0} (never_fails : W → Type 0) (a : PartsSoFar W) → IsSameCopier never_fails a a
+same_self never_fails a = record { config = refl; sizes = refl; start = refl; reliable = λ n. n }

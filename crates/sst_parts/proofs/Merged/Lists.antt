@@ -42,7 +42,7 @@ all_first : (x : Entry) (xs ys : List Entry) → AllByRecursion (λ (y : Entry).
 all_first x xs [] h = λ after. refl
 all_first x xs (y ∷ ys) h = λ after. merge-second entry_cmp x y xs (ys ++ after) h.0 ∙ ap (λ zs. y ∷ zs) (all_first x xs ys h.1 after)
 
--- no entry of an ordered list sorts behind its last one
+-- no entry of an ordered list sorts after its last one
 up_to_last : (front : List Entry) (last : Entry) → IsInOrder entry_cmp (front ++ last ∷ []) → AllByRecursion (λ (y : Entry). entry_cmp last y ≢ Less) (front ++ last ∷ [])
 up_to_last [] last h = ((λ l. let f : Equal ≡ Less = sym (tied_itself entry_order last) ∙ l in absurd (cc)), tt)
 up_to_last (y ∷ []) last h = (h.0, up_to_last [] last tt)

@@ -1,5 +1,5 @@
 -- Steps of a merge: the lesser of two first entries is taken, and put into a copier.
-use Rattle.std.proofs.Common.{◌≡◌, ℕ, zero, suc, ◌+◌, ◌≤◌, arith, ◌∷◌, [], ◌++◌, Bool, true, false, not, List, length, drop, Option, Some, None, Result, Ok, Err, refl, sym, ap, subst, ◌∙◌, append_assoc, append-nil, cond}
+use Rattle.std.proofs.Common.{◌≡◌, ℕ, zero, suc, ◌+◌, ◌≤◌, arith, ◌∷◌, [], ◌++◌, true, false, not, List, length, drop, Option, Some, None, Result, Ok, Err, refl, sym, ap, subst, ◌∙◌, append_assoc, append-nil, cond}
 use Rattle.std.proofs.lemmas.List.{drop_all}
 use Rattle.std.specs.List.{AllZip, slice_get}
 use Rattle.std.specs.Option.{IfSome, option_map}
@@ -28,16 +28,16 @@ use Rattle.sst_parts.proofs.Merged.Held.{adds_on, adds_same, merges_begun, merge
 use Rattle.sst_parts.proofs.Writing.Joins.{joined-append}
 
 -- a known list, whose first entry was taken
-record IsRest (x : Entry) (xs : List Entry) (t : Option (List Entry)) : Type 0 where
-  rest : List Entry
-  is : t ≡ Some rest
-  whole : x ∷ rest ≡ xs
+pub record IsRest (x : Entry) (xs : List Entry) (t : Option (List Entry)) : Type 0 where
+  pub rest : List Entry
+  pub is : t ≡ Some rest
+  pub whole : x ∷ rest ≡ xs
 
-rest_of : (x : Entry) (xs : List Entry) (t : Option (List Entry)) → ◌≡◌ {A = Option (List Entry)} (Some xs) (option_map (λ zs. x ∷ zs) t) → IsRest x xs t
+pub rest_of : (x : Entry) (xs : List Entry) (t : Option (List Entry)) → ◌≡◌ {A = Option (List Entry)} (Some xs) (option_map (λ zs. x ∷ zs) t) → IsRest x xs t
 rest_of x xs None e = absurd (cc)
 rest_of x xs (Some ts) e = record { rest = ts; is = refl; whole = cc }
 
-first_by : (x : Entry) (xs ys : List Entry) → goes_before (x ∷ xs) ys ≡ true → MergesTo (decoded (x ∷ xs)) (decoded ys) (plain x ∷ []) (decoded xs) (decoded ys)
+pub first_by : (x : Entry) (xs ys : List Entry) → goes_before (x ∷ xs) ys ≡ true → MergesTo (decoded (x ∷ xs)) (decoded ys) (plain x ∷ []) (decoded xs) (decoded ys)
 first_by x xs [] h = absurd (cc)
 first_by x xs (y ∷ ys) h = first_taken (plain x) (plain y) (decoded xs) (decoded ys) (not_true (is_lt (entry_cmp y x)) h)
 
@@ -142,12 +142,12 @@ part_done c a b n n' n'' p p' p'' before step ys at = λ xs is.
     }
 
 -- the part at an index of a parted table, and those after it
-record IsAt {X Y : Type 0} (R : X → Y → Type 0) (xs : List X) (i : ℕ) (y : Y) : Type 0 where
-  item : X
-  related : R item y
-  rest : drop i xs ≡ item ∷ drop (suc i) xs
+pub record IsAt {X Y : Type 0} (R : X → Y → Type 0) (xs : List X) (i : ℕ) (y : Y) : Type 0 where
+  pub item : X
+  pub related : R item y
+  pub rest : drop i xs ≡ item ∷ drop (suc i) xs
 
-zip_at : {X Y : Type 0} (R : X → Y → Type 0) (xs : List X) (ys : List Y) (i : ℕ) (y : Y) → AllZip R xs ys → slice_get ys i ≡ Some y → IsAt R xs i y
+pub zip_at : {X Y : Type 0} (R : X → Y → Type 0) (xs : List X) (ys : List Y) (i : ℕ) (y : Y) → AllZip R xs ys → slice_get ys i ≡ Some y → IsAt R xs i y
 zip_at R [] [] i y z e = absurd (cc)
 zip_at R [] (v ∷ ys) i y z e = absurd z
 zip_at R (x ∷ xs) [] i y z e = absurd z
@@ -277,7 +277,7 @@ with_value x v = record { key = x.key; value = v }
 plain_twice : (x : Entry) → plain (plain x) ≡ plain x
 plain_twice x = ap (with_value x) (elim x.key.value_type as (λ t. plain_value t (plain_value t x.value) ≡ plain_value t x.value) [ Value ↦ refl | Tombstone ↦ refl | WeakTombstone ↦ refl | Indirection ↦ refl ])
 
-decoded_twice : (xs : List Entry) → decoded (decoded xs) ≡ decoded xs
+pub decoded_twice : (xs : List Entry) → decoded (decoded xs) ≡ decoded xs
 decoded_twice [] = refl
 decoded_twice (x ∷ xs) = ap (λ y. y ∷ decoded (decoded xs)) (plain_twice x) ∙ ap (λ ys. plain x ∷ ys) (decoded_twice xs)
 

@@ -51,7 +51,7 @@ module _ (c : Hashes) where
     asks_as_plain f f' a a' P None asked = tt
     asks_as_plain f f' a a' P (Some all) asked = subst (AsksFor f f' a a' P) (frames_of_plain t other all h) asked
 
--- behind a stage that succeeds a table is opened as by the next ones
+-- after a stage that succeeds a table is opened as by the next ones
 module _ {H S Z : Type 0} (bytes : S → Option (List ℕ)) (failures : S → ℕ) (is_reliable : S → Type 0) (source mid : S) (z : Z) (read : List ℕ → Result Z Error) (next : List ℕ → Z → Result AnyKept Error)
     (grow : failures source ≤ failures mid) (kept : is_reliable source → is_reliable mid)
   where

@@ -7,6 +7,7 @@ use Rattle.sstable_blocks.specs.Results.{Error, BadHandle}
 use Rattle.sstable_blocks.specs.BlockTypes as types
 use Rattle.sst_parts.specs.Parts.{IsParted, IsStoredPart, tops_at}
 use Rattle.sstable_blocks.specs.RunPlaces.{part_in}
+use Rattle.sstable_blocks.specs.RunPlaceLaws.{part_long}
 use Rattle.sst_parts.specs.PartScans.{bytes_reads, kept_reads, part_reads, parts_read}
 use Rattle.sst_parts.specs.PartMerges.{IsPartBytes}
 use Rattle.sst_parts.specs.RefScans.{IsScannedPart}
@@ -63,6 +64,7 @@ module _ (c : Hashes) (sums : (xs : List ℕ) → c.hash128 xs < 2 ^ 128)
     -- the bytes of a stored part are read as its entries
     pub part_bytes : (bytes : List ℕ) (part : List (List Entry)) (h : Handle) → IsStoredPart c bytes part h → IsPartBytes c (part_in bytes (range_of h)) part h
     part_bytes bytes part h s = record {
+      named = sym (part_long bytes (range_of h) s.inside);
       stored = part_cut c bytes part h s;
       read = file_is (part_in bytes (range_of h)) all_keys part s.places s.footer s.sound ∙ ap (map Ok) (within_all (map plain (joined part)));
       ordered = s.sound.ordered;

@@ -1,4 +1,4 @@
--- Blocks behind parts that are closed.
+-- Blocks after parts that are closed.
 use Rattle.std.proofs.Common.{◌≡◌, ℕ, ◌+◌, ◌-◌, ◌≤◌, ◌||◌, ◌&&◌, Bool, true, false, cond, inl, inr, List, [], ◌∷◌, ◌++◌, length, take, refl, arith, sym, ◌∙◌, ap, subst, append_assoc, length-append, Option, Some, None}
 use Rattle.std.proofs.lemmas.Bool.{cases_Bool, cases_lt}
 use Rattle.std.proofs.lemmas.Bool.Decides.{nat_tests}
@@ -73,7 +73,7 @@ last_behind blocks items key seqno l = record {
   short = l.short;
 }
 
--- and that of blocks behind others
+-- and that of blocks after others
 pub last_key_behind : (before blocks : List (List Entry)) (key : List ℕ) (seqno : ℕ) → IsLastOf (joined blocks) key seqno → IsLastKey (joined (before ++ blocks)) (Some (key, seqno))
 last_key_behind before blocks key seqno l =
     let whole : joined (before ++ blocks) ≡ (joined before ++ l.front) ++ l.last ∷ [] = joined-append before blocks ∙ ap (λ xs. joined before ++ xs) l.whole ∙ sym (append_assoc (joined before) l.front (l.last ∷ [])) in

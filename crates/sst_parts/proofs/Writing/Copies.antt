@@ -123,7 +123,7 @@ closes_core old new w now config start closed some writable ordered k =
       };
     }
 
--- a copy is closed behind the current part
+-- a copy is closed after the current part
 pub copied_between : (old new : ClosedView) (bytes : List ℕ) (end : Handle) (now : Option (List ℕ)) → IsWritable old.config → Follows (joined (known_parts old.parts)) (end_entry end ∷ []) → Closes old (Copied bytes end) new now → IsBetween new now
 copied_between old new bytes end now writable follows k =
     let known : known_parts new.parts ≡ known_parts old.parts ++ ((end_entry end ∷ []) ∷ []) ∷ [] = ap known_parts k.parts ∙ map-append known_blocks old.parts (Copied bytes end ∷ []) in

@@ -34,7 +34,7 @@ module _ {W : Type 0} (f : Form) (w : PartWriting W) (block : List Entry) where
   more : joined closed ++ (current ++ block ∷ []) ≡ blocks_so_far w ++ block ∷ []
   more = sym (append_assoc (joined closed) current (block ∷ [])) ∙ ap (λ bs. bs ++ block ∷ []) (same_blocks (is_full w.sizes w.current) w.parts w.current)
 
-  -- one block more was written behind all
+  -- one block more was written after all
   pub blocks_added : (new : PartWriting W) → AddsTo w new block → blocks_so_far new ≡ blocks_so_far w ++ block ∷ []
   blocks_added new a = ap (λ (ps : List (List (List Entry))). joined ps ++ new.current) a.parts ∙ ap (λ bs. joined closed ++ bs) a.current ∙ more
 

@@ -1,4 +1,4 @@
--- A sound run is one with more bytes behind it too, and its footer is read there.
+-- A sound run is one with more bytes after it too, and its footer is read there.
 use Rattle.std.proofs.Common.{◌≡◌, ℕ, ◌+◌, ◌-◌, ◌^◌, ◌<◌, ◌≤◌, List, [], ◌∷◌, ◌++◌, length, take, drop, refl, arith, sym, ◌∙◌, ap, append_assoc, length-append, Option, Some, None, IfSome, Ok, cond, eqb, inl, inr}
 use Rattle.std.proofs.lemmas.Bool.{cases_Bool, eqb-true}
 use Rattle.std.proofs.lemmas.List.{length-drop, drop-append-le, take-append-le, drop_at, append-nil}
@@ -13,7 +13,7 @@ use Rattle.sstable_blocks.specs.RunReading.{Hashes, IsFramedAt}
 use Rattle.sstable_blocks.specs.Sound.{IsSound, IsStoredBlock, IsStoredFilter}
 use Rattle.sstable_blocks.specs.declared.run.RunHandles.{RunHandles}
 
--- a range inside is the same with more bytes behind it
+-- a range inside is the same with more bytes after it
 pub longer : (xs ys : List ℕ) (o n : ℕ) → o + n ≤ length xs → take n (drop o (xs ++ ys)) ≡ take n (drop o xs)
 longer xs ys o n h =
     let l = length-drop o xs in

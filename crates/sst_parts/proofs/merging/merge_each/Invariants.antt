@@ -4,6 +4,7 @@ use Rattle.sstable_blocks.specs.Blocks.{joined}
 use Rattle.sstable_blocks.specs.Prelude.{Entry}
 use Rattle.sstable_blocks.specs.RunReading.{hashes}
 use Rattle.sstable_blocks.specs.Sources.{KeepsSource}
+use Rattle.sst_merge.specs.Sources.{MeetsNoMore}
 use Rattle.sst_parts.specs.PartMerges.{IsSameCopier, Merges}
 use Rattle.sst_parts.specs.Parts.{IsParted}
 use Rattle.sst_parts.proofs.Merged.Steps.{from_part}
@@ -17,8 +18,8 @@ invariant-parts g l = record {
   inside : l.index ≤ length l.handles;
   merged : IfSome (g.S.FrameSource.bytes l.fn.base.source) (λ all. (parts : List (List (List Entry))) → IsParted (hashes g.H.BlockHash.hash64 g.H.BlockHash.hash128) parts all l.fn.base.top
       → Merges (hashes g.H.BlockHash.hash64 g.H.BlockHash.hash128) l.fn.filler l.filler l.fn.newer.list l.newer.list (joined (joined parts)) (from_part parts l.index));
-  same : IsSameCopier l.fn.filler l.filler;
-  reliable : g.W.Output.never_fails l.fn.filler.writer → g.W.Output.never_fails l.filler.writer;
+  same : IsSameCopier g.W.Output.never_fails l.fn.filler l.filler;
+  no_more : MeetsNoMore l.fn.newer l.newer;
 }
 
 abbrev pub decreases-parts : goal.decreases-parts

@@ -1,14 +1,15 @@
 use Rattle.std.proofs.Common.{◌≡◌, List, Some}
 use Rattle.sstable_blocks.specs.Prelude.{Entry}
 use Rattle.sstable_blocks.specs.RunReading.{hashes}
+use Rattle.sst_merge.specs.Sources.{MeetsNoMore}
 use Rattle.sst_parts.specs.PartMerges.{IsSameCopier, Merges}
 use Rattle.sst_parts.proofs.merging.write_before.Given as goal
 
 abbrev pub invariant-next : goal.invariant-next
 invariant-next g l = record {
   merged : (ys : List Entry) → l.part.list ≡ Some ys → Merges (hashes g.H.BlockHash.hash64 g.H.BlockHash.hash128) l.fn.filler l.filler l.fn.newer.list l.newer.list ys ys;
-  same : IsSameCopier l.fn.filler l.filler;
-  reliable : g.W.Output.never_fails l.fn.filler.writer → g.W.Output.never_fails l.filler.writer;
+  same : IsSameCopier g.W.Output.never_fails l.fn.filler l.filler;
+  no_more : MeetsNoMore l.fn.newer l.newer;
 }
 
 abbrev pub decreases-next : goal.decreases-next

@@ -1,14 +1,17 @@
-use Rattle.std.proofs.Common.{refl}
+use Rattle.std.proofs.Common.{inl}
+use Rattle.std.proofs.lemmas.Result.{err_from_is_err_and}
+use Rattle.sst_merge.specs.WriteLaws.{gives_more}
 use Rattle.sstable_blocks.specs.RunReading.{hashes}
-use Rattle.sst_parts.proofs.Merged.Held.{same_on}
+use Rattle.sst_parts.proofs.Merged.Held.{same_on, same_self}
+use Rattle.sst_parts.proofs.Merged.Faults.{fails_left}
 use Rattle.sst_parts.proofs.Merged.Steps.{wrote_all, wrote_more, wrote_none}
 use Rattle.sst_parts.proofs.merging.write_left.Goals as goal
 
 pub next-init : goal.next-init
 next-init g c = record {
   written = wrote_none (hashes g.H.BlockHash.hash64 g.H.BlockHash.hash128) c.args.filler c.args.filler c.args.filler c.args.newer.now.list;
-  same = record { config = refl; sizes = refl; start = refl };
-  reliable = λ n. n;
+  same = same_self g.W.Output.never_fails c.args.filler;
+  no_more = λ e met. met;
 }
 
 pub next-preserved : goal.next-preserved
@@ -18,11 +21,23 @@ next-preserved g c =
     let first = rw c.in-Some.is at c.in_ok-entry.ensures.first in
     record {
       written = wrote_more h c.args.filler c.next.filler c.in_ok-filler.filler c.in-Some.entry c.args.newer.now.list c.next.newer.list c.take.new.self.list inv.written first.0 c.in_ok-filler.ensures.added;
-      same = same_on c.args.filler c.next.filler c.in_ok-filler.filler inv.same c.in_ok-filler.ensures.same;
-      reliable = λ n. c.in_ok-filler.ensures.reliable (inv.reliable n);
+      same = same_on g.W.Output.never_fails c.args.filler c.next.filler c.in_ok-filler.filler inv.same c.in_ok-filler.ensures.same;
+      no_more = λ e met. inv.no_more e (c.in_ok-entry.ensures.no_more e met);
     }
 
 pub returns-in_default-clause-written : goal.returns-in_default-clause-written
 returns-in_default-clause-written g c = λ xs is.
     let first = rw c.in_default.is at c.in_ok-entry.ensures.first in
     wrote_all (hashes g.H.BlockHash.hash64 g.H.BlockHash.hash128) c.args.filler c.next.filler c.next.filler c.args.newer.now.list c.next.newer.list c.take.new.self.list c.next.invariant.written first.0 first.1 xs is
+
+pub returns-in_err-entry-clause-cause : goal.returns-in_err-entry-clause-cause
+returns-in_err-entry-clause-cause g c =
+    let p = err_from_is_err_and c.from_residual.result c.from_residual.ensures.1 in
+    rw (p.1, p.2) (inl (gives_more g.I.Source.may_fail c.args.newer.now c.next.newer c.in_err-entry.field-0.0 c.next.invariant.no_more c.in_err-entry.ensures.cause))
+
+pub returns-in_err-filler-clause-cause : goal.returns-in_err-filler-clause-cause
+returns-in_err-filler-clause-cause g c =
+    let p = err_from_is_err_and c.from_residual-in_err-filler.result c.from_residual-in_err-filler.ensures.1 in
+    let inv = c.next.invariant in
+    let first = rw c.in-Some.is at c.in_ok-entry.ensures.first in
+    rw (p.1, p.2) (fails_left g.W.Output.never_fails (hashes g.H.BlockHash.hash64 g.H.BlockHash.hash128) c.args.filler c.next.filler c.in_err-filler.field-0.0 inv.same g.I.Source.may_fail c.args.newer.now c.next.newer.list c.take.new.self.list c.in-Some.entry inv.written first.0 c.in_err-filler.ensures.cause)

@@ -1,5 +1,6 @@
 use Rattle.std.proofs.Common.{◌+◌}
 use Rattle.sstable_blocks.specs.RunReading.{hashes}
+use Rattle.sst_merge.specs.Sources.{MeetsNoMore}
 use Rattle.sst_parts.specs.PartMerges.{IsSameCopier}
 use Rattle.sst_parts.proofs.Merged.Steps.{MergedSoFar}
 use Rattle.sst_parts.proofs.merging.write_merge.Given as goal
@@ -7,8 +8,9 @@ use Rattle.sst_parts.proofs.merging.write_merge.Given as goal
 abbrev pub invariant-next : goal.invariant-next
 invariant-next g l = record {
   merged : MergedSoFar (hashes g.H.BlockHash.hash64 g.H.BlockHash.hash128) l.fn.filler l.filler l.fn.newer.list l.newer.list l.fn.part.list l.part.list;
-  same : IsSameCopier l.fn.filler l.filler;
-  reliable : g.W.Output.never_fails l.fn.filler.writer → g.W.Output.never_fails l.filler.writer;
+  same : IsSameCopier g.W.Output.never_fails l.fn.filler l.filler;
+  no_more : MeetsNoMore l.fn.newer l.newer;
+  part_no_more : MeetsNoMore l.fn.part l.part;
 }
 
 abbrev pub decreases-next : goal.decreases-next
