@@ -3,7 +3,7 @@
 use crate::fault::Result;
 use std::alloc::Global;
 
-/// Bytes with 1 or 40 more behind them, by an odd number the latter: all 0, all 255, or the last of
+/// Bytes with 1 or 40 more after them, by an odd number the latter: all 0, all 255, or the last of
 /// the bytes again.
 fn longer(alloc: Global, bytes: &[u8], by: usize) -> Result<Vec<u8>> {
     let count = if by % 2 == 0 { 1 } else { 40usize };

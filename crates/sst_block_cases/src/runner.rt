@@ -106,6 +106,19 @@ fn answer_in<H: BlockHash, C: Commands<R>, R: AllocGlobal>(
     Ok(found)
 }
 
+/// Prints a case that does not hold.
+fn print_case<R: Print>(
+    rt: &R,
+    file: &File<'_>,
+    command: &str,
+    found: &str,
+    wanted: &str,
+) -> Result<()> {
+    let (name, number) = (file.name, file.line);
+    println!(rt; "{name}:{number}: {command} => {found}, not {wanted}")?;
+    Ok(())
+}
+
 /// Runs the case of a line, if it has one. Prints a case that does not hold.
 fn run_line<H: BlockHash, C: Commands<R>, R: Print + AllocGlobal>(
     rt: &R,
@@ -124,9 +137,7 @@ fn run_line<H: BlockHash, C: Commands<R>, R: Print + AllocGlobal>(
         file.held = file.held.saturating_add(1);
         return Ok(());
     }
-    let (name, number) = (file.name, file.line);
-    println!(rt; "{name}:{number}: {command} => {found}, not {wanted}")?;
-    Ok(())
+    print_case(rt, file, command, found.as_str(), wanted)
 }
 
 /// Prints how many cases of a file hold. Returns whether all do.

@@ -222,7 +222,7 @@ pub fn truth(alloc: Global, value: bool) -> Result<String> {
     Ok(String::from_str(alloc, if value { "true" } else { "false" })?)
 }
 
-/// Appends a word to a text, behind a space if it is not the first.
+/// Appends a word to a text, after a space if it is not the first.
 pub fn push_word(text: &mut String, word: &str) -> Result<()> {
     if !text.is_empty() {
         text.push(' ')?;
@@ -305,7 +305,7 @@ pub fn alike(
     Ok(format!(in alloc; "{answer}, {way} {other}")?)
 }
 
-/// The name of a word and how often it stands: a name with `*` and a number behind it, else once.
+/// The name of a word and how often it stands: a name with `*` and a number after it, else once.
 fn repetition_of(word: &str) -> (&str, u16) {
     let Some((name, times)) = word.split_once('*') else {
         return (word, 1);
@@ -319,7 +319,7 @@ fn repetition_of(word: &str) -> (&str, u16) {
     }
 }
 
-/// Returns words, of which one with `*` and a number behind its name stands for as many.
+/// Returns words, of which one with `*` and a number after its name stands for as many.
 pub fn repeated<'a>(alloc: Global, words: &[&'a str]) -> Result<Vec<&'a str>> {
     let mut all = Vec::new(alloc);
     for word in words {

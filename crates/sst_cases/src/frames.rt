@@ -111,7 +111,7 @@ fn bytes_of_header<H: BlockHash>(alloc: Global, header: &Header) -> Result<Vec<u
     Ok(bytes)
 }
 
-/// Returns what is seen of a header, and how many bytes are left behind it.
+/// Returns what is seen of a header, and how many bytes are left after it.
 fn seen_header(alloc: Global, header: &Header, left: usize) -> Result<String> {
     let text = text_of(alloc, header)?;
     Ok(format!(in alloc; "{text}, {left} left")?)
@@ -138,7 +138,7 @@ fn bytes_of_handle(alloc: Global, handle: &BlockHandle) -> Result<(Vec<u8>, bool
     Ok((bytes, is_same))
 }
 
-/// Returns what is seen of a lone handle, and how many bytes are left behind it.
+/// Returns what is seen of a lone handle, and how many bytes are left after it.
 fn seen_handle(alloc: Global, handle: &BlockHandle, left: usize) -> Result<String> {
     let (offset, size) = (*handle.offset(), handle.size());
     Ok(format!(in alloc; "{offset} {size}, {left} left")?)

@@ -4,7 +4,7 @@
 //! `.xxh3`. Prints a line for each case that does not hold, with the file and the number of the
 //! line, and then how many cases of the file hold; the status is 1 if one does not.
 //!
-//! Behind the word `refused` it runs cases while allocations are refused: one that tells of that is
+//! After the word `refused` it runs cases while allocations are refused: one that tells of that is
 //! performed again, and then has to give its result; how many were is printed too.
 //!
 //! The commands on frames, filters, runs and merges, on a store, and on the program `sst` stand

@@ -32,7 +32,7 @@ fn push_code(alloc: Global, bytes: &mut Vec<u8>, code: &str) -> Result<()> {
     Ok(bytes.extend_from_slice(code.as_slice())?)
 }
 
-/// Appends the part of a text behind a `<`: bytes that stand as a code, `>`, and the rest.
+/// Appends the part of a text after a `<`: bytes that stand as a code, `>`, and the rest.
 fn push_coded(alloc: Global, bytes: &mut Vec<u8>, part: &str) -> Result<()> {
     let Some((code, plain)) = part.split_once('>') else {
         return Err(Fault::Word);

@@ -42,7 +42,11 @@ fn source(alloc: Global) -> sst_base::Result<InMemory> {
 }
 
 // Begins a table like it, but for its parts.
-fn begin<W: Output + Drop>(alloc: Global, to: W, blocks: usize) -> PartCopier<ByteSum, W> {
+pub(crate) fn begin<W: Output + Drop>(
+    alloc: Global,
+    to: W,
+    blocks: usize,
+) -> PartCopier<ByteSum, W> {
     let config = RunConfig::new(2, HashRatio { num: 1, den: 1 }, 10);
     PartCopier::new(alloc, to, config, PartSizes { blocks, bytes: 0 })
 }
@@ -121,12 +125,14 @@ fn add_mixed<W: Output + Drop>(
 }
 
 // Ends a table.
-fn finish<W: Output + Drop>(writer: PartCopier<ByteSum, W>) -> sst_base::Result<W> {
+pub(crate) fn finish<W: Output + Drop>(writer: PartCopier<ByteSum, W>) -> sst_base::Result<W> {
     if !writer.has_parts() {
         return Err(Error::OutOfOrder);
     }
-    let (_, to) = writer.finish()?;
-    Ok(to)
+    match writer.finish() {
+        Ok((_, to)) => Ok(to),
+        Err(error) => Err(error),
+    }
 }
 
 // A table that is mixed so, and what it is written to.
@@ -181,7 +187,7 @@ fn copies_have_the_bytes_of_blocks(rt: HostRuntime) {
     }
 }
 
-// Whether the part at an index fits behind a copy of another one, and then whether the block of a
+// Whether the part at an index fits after a copy of another one, and then whether the block of a
 // key does.
 fn fits(alloc: Global, first: usize, next: usize, key: usize) -> sst_base::Result<(bool, bool)> {
     let mut table = source(alloc)?;
@@ -197,7 +203,7 @@ fn order_is_that_of_the_ends(rt: HostRuntime) {
     let alloc = rt.alloc();
     assert!(rt; fits(alloc, 2, 3, 3) == Ok((true, true)));
     assert!(rt; fits(alloc, 2, 1, 1) == Ok((false, false)));
-    // The newest version of a key is behind its oldest one; of a part the end alone is seen.
+    // The newest version of a key is after its oldest one; of a part the end alone is seen.
     assert!(rt; fits(alloc, 2, 2, 2) == Ok((true, false)));
 }
 

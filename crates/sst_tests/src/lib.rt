@@ -19,6 +19,8 @@ mod copied_parts;
 #[cfg(test)]
 mod many_keys;
 #[cfg(test)]
+mod merged_parts;
+#[cfg(test)]
 mod merges;
 #[cfg(test)]
 mod parts;

@@ -5,7 +5,7 @@ use sst_parts::{AnyTable, PartSizes};
 use sstable_blocks::{MemorySource, Needle};
 use std::alloc::Global;
 
-// Keys before, among and behind those of the table.
+// Keys before, among and after those of the table.
 const KEYS: [[u8; 2]; 14] = [
     *b"k\x00", *b"k\x01", *b"k\x02", *b"k\x03", *b"k\x04", *b"k\x05", *b"k\x06", *b"k\x07",
     *b"k\x08", *b"k\x09", *b"k\x0a", *b"k\x0b", *b"k\x0c", *b"k\x0d",
@@ -44,32 +44,57 @@ fn count_wrong(needles: &[Needle<'_>], found: &[Option<InternalValue>]) -> u64 {
     wrong
 }
 
-// How many answers about all keys are wrong; as many as there are keys where not each has one.
-fn wrong_below(
-    alloc: Global,
-    table: &mut AnyTable<ByteSum, MemorySource>,
-    seqno: u64,
-    backwards: bool,
-) -> Result<u64> {
-    let needles = needles(alloc, seqno, backwards)?;
-    let found = table.get_many(alloc, &needles, &mut Steps::new())?;
-    if found.len() != KEYS.len() {
-        return Ok(KEYS.len() as u64);
+// The same; as many as there are needles where not each has an answer.
+fn wrong_answers(needles: &[Needle<'_>], found: &[Option<InternalValue>]) -> u64 {
+    if found.len() == needles.len() {
+        count_wrong(needles, found)
+    } else {
+        needles.len() as u64
     }
-    Ok(count_wrong(&needles, &found))
+}
+
+// A table in memory.
+type InMemory = AnyTable<ByteSum, MemorySource>;
+
+// How many answers of a table are wrong.
+fn wrong_found(alloc: Global, table: &mut InMemory, needles: &[Needle<'_>]) -> Result<u64> {
+    match table.get_many(alloc, needles, &mut Steps::new()) {
+        Ok(found) => Ok(wrong_answers(needles, &found)),
+        Err(error) => Err(error),
+    }
+}
+
+// How many answers about all keys are wrong.
+fn wrong_below(alloc: Global, table: &mut InMemory, seqno: u64, backwards: bool) -> Result<u64> {
+    match needles(alloc, seqno, backwards) {
+        Ok(needles) => wrong_found(alloc, table, &needles),
+        Err(error) => Err(error),
+    }
+}
+
+// The same below several numbers.
+fn wrong_in_table(alloc: Global, table: &mut InMemory) -> Result<u64> {
+    let mut wrong = 0u64;
+    for seqno in &[0u64, 1, 5, 9, 11] {
+        let there = wrong_below(alloc, table, *seqno, false)?;
+        let back = wrong_below(alloc, table, *seqno, true)?;
+        wrong = wrong.saturating_add(there).saturating_add(back);
+    }
+    Ok(wrong)
+}
+
+// Opens a table in memory.
+fn opened(alloc: Global, bytes: Vec<u8>) -> Result<InMemory> {
+    let source = MemorySource::new(Slice::from_vec(bytes)?);
+    Ok(InMemory::open_file(alloc, source)?)
 }
 
 // How many answers are wrong of a table in memory.
 fn wrong_of(alloc: Global, bytes: Vec<u8>) -> Result<u64> {
-    let source = MemorySource::new(Slice::from_vec(bytes)?);
-    let mut table = AnyTable::<ByteSum, MemorySource>::open_file(alloc, source)?;
-    let mut wrong = 0u64;
-    for seqno in &[0u64, 1, 5, 9, 11] {
-        let there = wrong_below(alloc, &mut table, *seqno, false)?;
-        let back = wrong_below(alloc, &mut table, *seqno, true)?;
-        wrong = wrong.saturating_add(there).saturating_add(back);
+    match opened(alloc, bytes) {
+        Ok(mut table) => wrong_in_table(alloc, &mut table),
+        Err(error) => Err(error),
     }
-    Ok(wrong)
 }
 
 // How many answers are wrong of a table of a row.

@@ -1,5 +1,6 @@
 // Parted tables, written and read.
 use crate::Tested;
+use crate::merges::lists::push_made;
 use crate::runs::ends::Ends;
 use crate::runs::lists::push;
 use crate::runs::written::write_in_blocks;
@@ -24,13 +25,27 @@ fn versions(list: &mut Vec<InternalValue>, key: u8) -> sst_base::Result<()> {
     Ok(())
 }
 
+// Parts of a block each.
+pub(crate) const ONE_BLOCK: PartSizes = PartSizes {
+    blocks: 1,
+    bytes: 0,
+};
+
+// Appends the versions of six keys.
+pub(crate) fn push_six_keys(list: &mut Vec<InternalValue>) -> sst_base::Result<()> {
+    for key in 0u8..6 {
+        versions(list, key * 2 + 1)?;
+    }
+    Ok(())
+}
+
 // The versions of six keys.
 pub(crate) fn six_keys(alloc: Global) -> sst_base::Result<Vec<InternalValue>> {
     let mut list = Vec::new(alloc);
-    for key in 0u8..6 {
-        versions(&mut list, key * 2 + 1)?;
+    match push_six_keys(&mut list) {
+        Ok(()) => Ok(list),
+        Err(error) => Err(error),
     }
-    Ok(list)
 }
 
 // Adds a block to a parted table.
@@ -54,21 +69,34 @@ fn finish(writer: PartWriter<ByteSum, Vec<u8>>) -> sst_base::Result<(BlockHandle
     }
 }
 
-// A parted table of six keys, in blocks of a length and parts of these sizes, and the handle of the
+// A parted table of entries, in blocks of a length and parts of these sizes, and the handle of the
 // index of its parts.
-fn written_with_top(
+pub(crate) fn write_list(
     alloc: Global,
+    list: &[InternalValue],
     len: usize,
     sizes: PartSizes,
     bits: u32,
 ) -> sst_base::Result<(BlockHandle, Vec<u8>)> {
-    let list = six_keys(alloc)?;
     let config = RunConfig::new(2, HashRatio { num: 1, den: 1 }, bits);
     let mut writer = PartWriter::<ByteSum, Vec<u8>>::new(alloc, Vec::new(alloc), config, sizes);
     for block in list.chunks(len.max(1)) {
         writer = add(writer, block)?;
     }
     finish(writer)
+}
+
+// The same of six keys.
+fn written_with_top(
+    alloc: Global,
+    len: usize,
+    sizes: PartSizes,
+    bits: u32,
+) -> sst_base::Result<(BlockHandle, Vec<u8>)> {
+    match six_keys(alloc) {
+        Ok(list) => write_list(alloc, &list, len, sizes, bits),
+        Err(error) => Err(error),
+    }
 }
 
 // The same table alone.
@@ -78,8 +106,10 @@ pub(crate) fn written(
     sizes: PartSizes,
     bits: u32,
 ) -> sst_base::Result<Vec<u8>> {
-    let (_, bytes) = written_with_top(alloc, len, sizes, bits)?;
-    Ok(bytes)
+    match written_with_top(alloc, len, sizes, bits) {
+        Ok((_, bytes)) => Ok(bytes),
+        Err(error) => Err(error),
+    }
 }
 
 // The sequence number of what a read of a key gives, 0 where it gives nothing.
@@ -120,26 +150,54 @@ fn wrong_finds_of_key(table: &PartedRef<'_, ByteSum>, key: u8) -> u64 {
     wrong
 }
 
-// How many finds in a parted table of six keys over borrowed bytes give the wrong version, in parts
-// of so many blocks; an error where it has not so many entries.
-fn wrong_finds(alloc: Global, blocks: usize) -> sst_base::Result<u64> {
-    let (top, bytes) = written_with_top(alloc, 4, PartSizes { blocks, bytes: 0 }, 10)?;
-    let bytes = Slice::from_vec(bytes)?;
-    let (table, summary) = PartedRef::<ByteSum>::check(alloc, &bytes, &top)?;
-    if summary.whole.entries != 54 {
-        return Err(Error::BadEntry);
-    }
+// How many finds in a parted table of six keys give the wrong version.
+fn wrong_finds_in(table: &PartedRef<'_, ByteSum>) -> u64 {
     let mut wrong = 0u64;
     for key in 0u8..14 {
-        wrong = wrong.saturating_add(wrong_finds_of_key(&table, key));
+        wrong = wrong.saturating_add(wrong_finds_of_key(table, key));
     }
-    Ok(wrong)
+    wrong
+}
+
+// The same over borrowed bytes; an error where they have not the entries of six keys.
+fn wrong_finds_in_bytes(alloc: Global, bytes: &Slice, top: &BlockHandle) -> sst_base::Result<u64> {
+    match PartedRef::check(alloc, bytes, top) {
+        Ok((table, summary)) if summary.whole.entries == 54 => Ok(wrong_finds_in(&table)),
+        Ok(_) => Err(Error::BadEntry),
+        Err(error) => Err(error),
+    }
+}
+
+// The same of a table in parts of a number of blocks.
+fn wrong_finds(alloc: Global, blocks: usize) -> sst_base::Result<u64> {
+    let (top, bytes) = written_with_top(alloc, 4, PartSizes { blocks, bytes: 0 }, 10)?;
+    match Slice::from_vec(bytes) {
+        Ok(bytes) => wrong_finds_in_bytes(alloc, &bytes, &top),
+        Err(error) => Err(error),
+    }
+}
+
+// The same of a table in memory, which is verified and then trusted.
+fn wrong_trusted_finds_in(alloc: Global, table: &mut InMemory) -> sst_base::Result<u64> {
+    match table.verify(alloc) {
+        Ok(_summary) => Ok(wrong_finds_in(&table.trusted())),
+        Err(error) => Err(error),
+    }
+}
+
+// The same of a table in parts of a number of blocks.
+fn wrong_trusted_finds(alloc: Global, blocks: usize) -> sst_base::Result<u64> {
+    match opened(alloc, 4, blocks) {
+        Ok(mut table) => wrong_trusted_finds_in(alloc, &mut table),
+        Err(error) => Err(error),
+    }
 }
 
 #[test]
 fn versions_are_found_in_borrowed_bytes(rt: HostRuntime) {
     for blocks in &[0usize, 1, 2] {
         assert!(rt; wrong_finds(rt.alloc(), *blocks) == Ok(0));
+        assert!(rt; wrong_trusted_finds(rt.alloc(), *blocks) == Ok(0));
     }
 }
 
@@ -305,7 +363,7 @@ pub(crate) fn wrong_in_all(alloc: Global, table: InMemory, pattern: u64) -> sst_
     wrong_between(alloc, table.scan(), 0, 12, pattern)
 }
 
-// How many steps of a scan of the keys behind the second one, up to the fifth, are wrong.
+// How many steps of a scan of the keys after the second one, up to the fifth, are wrong.
 fn wrong_in_range(alloc: Global, table: InMemory, pattern: u64) -> sst_base::Result<u64> {
     let scan = table.scan_range(Bound::Excluded(b"k\x03"), Bound::Included(b"k\x09"));
     wrong_between(alloc, scan, 4, 9, pattern)
@@ -373,18 +431,49 @@ fn wrong_views(scan: &mut PartedRefScan<'_, '_, ByteSum>, wanted: &[Place], patt
     wrong
 }
 
-// How many steps of scans of all keys, and of those behind the second one up to the fifth, over
-// borrowed bytes are wrong.
+// The same of a scan that is let go.
+fn wrong_views_of(scan: PartedRefScan<'_, '_, ByteSum>, wanted: &[Place], pattern: u64) -> u64 {
+    let mut scan = scan;
+    wrong_views(&mut scan, wanted, pattern)
+}
+
+// How many steps of a scan of all keys over borrowed bytes are wrong.
+fn wrong_in_all_views(
+    alloc: Global,
+    table: &PartedRef<'_, ByteSum>,
+    pattern: u64,
+) -> sst_base::Result<u64> {
+    match wanted(alloc, 0, 12) {
+        Ok(all) => Ok(wrong_views_of(table.scan(), &all, pattern)),
+        Err(error) => Err(error),
+    }
+}
+
+// The same of the keys after the second one, up to the fifth.
+fn wrong_in_view_range(
+    alloc: Global,
+    table: &PartedRef<'_, ByteSum>,
+    pattern: u64,
+) -> sst_base::Result<u64> {
+    let (from, to) = (
+        Bound::Excluded(b"k\x03".as_slice()),
+        Bound::Included(b"k\x09".as_slice()),
+    );
+    match wanted(alloc, 4, 9) {
+        Ok(some) => Ok(wrong_views_of(table.scan_range(from, to), &some, pattern)),
+        Err(error) => Err(error),
+    }
+}
+
+// How many steps of both scans are wrong.
 fn wrong_in_borrowed(
     alloc: Global,
     table: &PartedRef<'_, ByteSum>,
     pattern: u64,
 ) -> sst_base::Result<u64> {
-    let all = wanted(alloc, 0, 12)?;
-    let some = wanted(alloc, 4, 9)?;
-    let wrong = wrong_views(&mut table.scan(), &all, pattern);
-    let mut scan = table.scan_range(Bound::Excluded(b"k\x03"), Bound::Included(b"k\x09"));
-    Ok(wrong.saturating_add(wrong_views(&mut scan, &some, pattern)))
+    let all = wrong_in_all_views(alloc, table, pattern)?;
+    let some = wrong_in_view_range(alloc, table, pattern)?;
+    Ok(all.saturating_add(some))
 }
 
 // The same of a table in blocks of a length and parts of so many blocks.
@@ -414,32 +503,53 @@ fn handle_from(file: &[u8], offset: usize) -> sst_base::Result<BlockHandle> {
     }
 }
 
-// Adds a part to a file. Returns its handle in the index.
-fn add_part(file: &mut Vec<u8>, part: &Part) -> sst_base::Result<KeyedBlockHandle> {
-    let alloc = *file.allocator();
-    let (key, end, seqno, between) = *part;
-    let mut list = Vec::new(alloc);
-    versions(&mut list, key)?;
+// The run of the versions of a key, and where its index and its filter are.
+fn run_of_key(alloc: Global, key: u8) -> sst_base::Result<(RunHandles, Vec<u8>)> {
     let config = RunConfig::new(2, HashRatio { num: 1, den: 1 }, 10);
-    let (places, run) = write_in_blocks(alloc, Vec::new(alloc), list.as_slice(), 4, config)?;
-    file.resize(file.len().saturating_add(between), 0)?;
-    let offset = file.len();
-    file.extend_from_slice(run.as_slice())?;
-    file.extend_from_slice(&encode_footer(&places))?;
-    let handle = handle_from(file.as_slice(), offset)?;
-    let end_key = Slice::new(alloc, &[b'k', end])?;
-    Ok(KeyedBlockHandle::new(end_key, seqno, handle))
+    let mut list = Vec::new(alloc);
+    match versions(&mut list, key) {
+        Ok(()) => write_in_blocks(alloc, Vec::new(alloc), list.as_slice(), 4, config),
+        Err(error) => Err(error),
+    }
 }
 
-// Ends a file with the index of its parts and a footer.
-fn end_file(file: &mut Vec<u8>, handles: &[KeyedBlockHandle]) -> sst_base::Result<()> {
-    let alloc = *file.allocator();
-    if handles.is_empty() || !IndexBlock::is_ordered(handles) || !IndexBlock::ends_fit(handles) {
-        return Err(Error::OutOfOrder);
-    }
-    let payload = IndexBlock::encode_into_vec(alloc, handles)?;
+// Appends a number of zeros, a run and its footer to a file. Returns the handle of the last two.
+fn append_run(
+    file: &mut Vec<u8>,
+    between: usize,
+    places: &RunHandles,
+    run: &[u8],
+) -> sst_base::Result<BlockHandle> {
+    file.resize(file.len().saturating_add(between), 0)?;
     let offset = file.len();
-    Block::write_into::<ByteSum, Vec<u8>>(file, payload.as_slice(), BlockType::Meta)?;
+    file.extend_from_slice(run)?;
+    file.extend_from_slice(&encode_footer(places))?;
+    handle_from(file.as_slice(), offset)
+}
+
+// Appends a part to a file.
+fn append_part(file: &mut Vec<u8>, part: &Part) -> sst_base::Result<BlockHandle> {
+    let (key, _, _, between) = *part;
+    match run_of_key(*file.allocator(), key) {
+        Ok((places, run)) => append_run(file, between, &places, run.as_slice()),
+        Err(error) => Err(error),
+    }
+}
+
+// Adds a part to a file. Returns its handle in the index.
+fn add_part(file: &mut Vec<u8>, part: &Part) -> sst_base::Result<KeyedBlockHandle> {
+    let (_, end, seqno, _) = *part;
+    let handle = append_part(file, part)?;
+    match Slice::new(*file.allocator(), &[b'k', end]) {
+        Ok(end_key) => Ok(KeyedBlockHandle::new(end_key, seqno, handle)),
+        Err(error) => Err(error),
+    }
+}
+
+// Appends the frame of an index to a file, and a footer.
+fn append_top(file: &mut Vec<u8>, payload: &[u8]) -> sst_base::Result<()> {
+    let offset = file.len();
+    Block::write_into::<ByteSum, Vec<u8>>(file, payload, BlockType::Meta)?;
     let top = handle_from(file.as_slice(), offset)?;
     file.extend_from_slice(&encode_footer(&RunHandles {
         index: top,
@@ -448,26 +558,55 @@ fn end_file(file: &mut Vec<u8>, handles: &[KeyedBlockHandle]) -> sst_base::Resul
     Ok(())
 }
 
+// Ends a file with the index of its parts and a footer.
+fn end_file(file: &mut Vec<u8>, handles: &[KeyedBlockHandle]) -> sst_base::Result<()> {
+    let alloc = *file.allocator();
+    if handles.is_empty() || !IndexBlock::is_ordered(handles) || !IndexBlock::ends_fit(handles) {
+        return Err(Error::OutOfOrder);
+    }
+    match IndexBlock::encode_into_vec(alloc, handles) {
+        Ok(payload) => append_top(file, payload.as_slice()),
+        Err(error) => Err(error),
+    }
+}
+
+// Writes a file of two parts.
+fn write_parts(file: &mut Vec<u8>, first: &Part, second: &Part) -> sst_base::Result<()> {
+    let mut handles = Vec::new(*file.allocator());
+    push_made(&mut handles, add_part(file, first))?;
+    push_made(&mut handles, add_part(file, second))?;
+    end_file(file, handles.as_slice())
+}
+
 // A file of two parts.
 fn file_of(alloc: Global, first: &Part, second: &Part) -> sst_base::Result<Vec<u8>> {
     let mut file = Vec::new(alloc);
-    let mut handles = Vec::new(alloc);
-    handles.push(add_part(&mut file, first)?)?;
-    handles.push(add_part(&mut file, second)?)?;
-    end_file(&mut file, handles.as_slice())?;
-    Ok(file)
+    match write_parts(&mut file, first, second) {
+        Ok(()) => Ok(file),
+        Err(error) => Err(error),
+    }
 }
 
 // What a check of a file says.
 fn verified(alloc: Global, file: Vec<u8>) -> sst_base::Result<PartedSummary> {
-    let mut table = open_bytes(alloc, file)?;
-    table.verify(alloc)
+    match open_bytes(alloc, file) {
+        Ok(mut table) => table.verify(alloc),
+        Err(error) => Err(error),
+    }
+}
+
+// How many entries a check of a file counts.
+pub(crate) fn verified_entries(alloc: Global, file: Vec<u8>) -> sst_base::Result<u64> {
+    match verified(alloc, file) {
+        Ok(summary) => Ok(summary.whole.entries),
+        Err(error) => Err(error),
+    }
 }
 
 // How many entries a check counts in a file of two parts.
 fn entries_in(alloc: Global, first: &Part, second: &Part) -> sst_base::Result<u64> {
-    match summary_of(alloc, first, second) {
-        Ok(summary) => Ok(summary.whole.entries),
+    match file_of(alloc, first, second) {
+        Ok(file) => verified_entries(alloc, file),
         Err(error) => Err(error),
     }
 }
@@ -484,7 +623,7 @@ const CHECKS: [(Part, Part, sst_base::Result<u64>); 7] = [
     // The index says another number, and another key.
     ((1, 1, 2, 0), (3, 3, 1, 0), Err(Error::BadHandle)),
     ((1, 1, 1, 0), (3, 4, 1, 0), Err(Error::BadHandle)),
-    // The newest version of a key is behind its oldest one.
+    // The newest version of a key is after its oldest one.
     ((1, 1, 1, 0), (1, 1, 1, 0), Err(Error::OutOfOrder)),
 ];
 

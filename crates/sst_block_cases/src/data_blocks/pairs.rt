@@ -5,7 +5,7 @@ use crate::digest::Digest;
 use crate::fault::{Fault, Result};
 use crate::room::Room;
 use crate::words::{bytes_of, number_of, parts_of, type_of};
-use sst_base::{BlockHash, InternalValue};
+use sst_base::{BlockHash, InternalValue, ValueType};
 use sst_block_core::{DataBlock, EntryView};
 use std::alloc::Global;
 use std::cmp::Ordering;
@@ -29,6 +29,23 @@ fn sign(order: Ordering) -> &'static str {
 }
 
 impl Signs {
+    /// Makes the signs of no pairs.
+    fn new() -> Signs {
+        Signs {
+            less: 0,
+            equal: 0,
+            greater: 0,
+            digest: Digest::new(),
+        }
+    }
+
+    /// Returns the counts, and the digest.
+    fn text(&self, alloc: Global) -> Result<String> {
+        let (less, equal, greater) = (self.less, self.equal, self.greater);
+        let state = self.digest.state;
+        Ok(format!(in alloc; "{less} less, {equal} equal, {greater} greater, {state:016x}")?)
+    }
+
     /// Adds how two user keys compare, two entries, and copies of these.
     fn add(
         &mut self,
@@ -84,18 +101,11 @@ fn compare_all<H: BlockHash>(
     left: &DataBlock<H>,
     right: &DataBlock<H>,
 ) -> Result<String> {
-    let mut signs = Signs {
-        less: 0,
-        equal: 0,
-        greater: 0,
-        digest: Digest::new(),
-    };
+    let mut signs = Signs::new();
     for entry in left.entries() {
         compare_with(alloc, &mut signs, &entry, right)?;
     }
-    let (less, equal, greater) = (signs.less, signs.equal, signs.greater);
-    let state = signs.digest.state;
-    Ok(format!(in alloc; "{less} less, {equal} equal, {greater} greater, {state:016x}")?)
+    signs.text(alloc)
 }
 
 /// Compares the entries of a block with those of a list's block at an interval, each with each.
@@ -137,6 +147,23 @@ fn text_of_found(alloc: Global, parts: Option<&EntryView<'_>>) -> Result<String>
     }
 }
 
+/// The parts of an entry of a key and the word of a value.
+fn parts_with(
+    alloc: Global,
+    key: &[u8],
+    value: &str,
+    seqno: u64,
+    value_type: ValueType,
+) -> Result<String> {
+    match bytes_of(alloc, value) {
+        Ok(value) => {
+            let parts = EntryView::of_parts(key, value.as_slice(), seqno, value_type);
+            text_of_found(alloc, parts.as_ref())
+        }
+        Err(fault) => Err(fault),
+    }
+}
+
 /// The parts of an entry, whose key may be too long: ENTRY.
 pub fn parts(alloc: Global, words: &[&str]) -> Result<String> {
     let [word] = words else {
@@ -144,7 +171,8 @@ pub fn parts(alloc: Global, words: &[&str]) -> Result<String> {
     };
     let (letter, seqno, key, value) = parts_of(word)?;
     let (seqno, value_type) = (number_of(seqno)?, type_of(letter)?);
-    let (key, value) = (bytes_of(alloc, key)?, bytes_of(alloc, value)?);
-    let parts = EntryView::of_parts(key.as_slice(), value.as_slice(), seqno, value_type);
-    text_of_found(alloc, parts.as_ref())
+    match bytes_of(alloc, key) {
+        Ok(key) => parts_with(alloc, key.as_slice(), value, seqno, value_type),
+        Err(fault) => Err(fault),
+    }
 }

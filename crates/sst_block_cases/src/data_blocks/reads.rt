@@ -2,7 +2,7 @@
 ghost use Rattle.sst_block_core.specs.ParsedEntry.{IsParsedEntry};
 
 use super::{Blocks, Opened};
-use crate::digest::Digest;
+use crate::digest::{Counted, Digest};
 use crate::fault::{Fault, Result};
 use crate::room::Room;
 use crate::words::{alike, bytes_of, number_of, size_of, word_of, word_of_found, word_of_read};
@@ -69,6 +69,12 @@ pub fn read<H: BlockHash>(alloc: Global, opened: &Opened<H>, words: &[&str]) -> 
     read_from_both(alloc, opened.both()?, key.as_slice(), seqno)
 }
 
+/// Whether a read of a key finds none.
+fn is_missed<H: BlockHash>(alloc: Global, block: &DataBlock<H>, key: &[u8]) -> Result<bool> {
+    let found = block.point_read(alloc, key, u64::MAX, &mut Steps::new())?;
+    Ok(found.is_none())
+}
+
 /// How many of so many reads of a key find none.
 fn count_misses<H: BlockHash>(
     alloc: Global,
@@ -78,14 +84,22 @@ fn count_misses<H: BlockHash>(
 ) -> Result<u32> {
     let mut count = 0u32;
     for _ in 0..times {
-        if block
-            .point_read(alloc, key, u64::MAX, &mut Steps::new())?
-            .is_none()
-        {
+        if is_missed(alloc, block, key)? {
             count = count.saturating_add(1);
         }
     }
     Ok(count)
+}
+
+/// How many of so many reads of a key find none, as a text.
+fn misses_of<H: BlockHash>(
+    alloc: Global,
+    block: &DataBlock<H>,
+    key: &[u8],
+    times: u32,
+) -> Result<String> {
+    let count = count_misses(alloc, block, key, times)?;
+    Ok(format!(in alloc; "{count} of {times}")?)
 }
 
 /// Reads of a key: how many find none: KEY TIMES. (Such a read asks for no memory.)
@@ -94,8 +108,13 @@ pub fn misses<H: BlockHash>(alloc: Global, opened: &Opened<H>, words: &[&str]) -
         return Err(Fault::Word);
     };
     let (times, key) = (size_of(times)?, bytes_of(alloc, key)?);
-    let count = count_misses(alloc, opened.bare()?, key.as_slice(), times)?;
-    Ok(format!(in alloc; "{count} of {times}")?)
+    misses_of(alloc, opened.bare()?, key.as_slice(), times)
+}
+
+/// The text of an offset and a length.
+fn text_of_range(alloc: Global, range: (usize, usize)) -> Result<String> {
+    let (offset, length) = range;
+    Ok(format!(in alloc; "{offset} {length}")?)
 }
 
 /// Where the value of an entry that a read finds is in bytes that are lent.
@@ -106,10 +125,7 @@ fn place_in<H: BlockHash>(
     seqno: u64,
 ) -> Result<String> {
     match page.find(key, seqno, &mut Steps::new()) {
-        Some(item) => {
-            let (offset, length) = item.value_range();
-            Ok(format!(in alloc; "{offset} {length}")?)
-        }
+        Some(item) => text_of_range(alloc, item.value_range()),
         None => word_of_found(alloc, None),
     }
 }
@@ -124,17 +140,50 @@ pub fn place<H: BlockHash>(alloc: Global, room: &Room, words: &[&str]) -> Result
     place_in(alloc, &page, key.as_slice(), seqno)
 }
 
-/// What some reads found.
+/// What some reads found. The first fault of one is kept.
 #[derive(Clone, Copy)]
 struct Reads {
     count: usize,
     found: usize,
     digest: Digest,
+    fault: Option<Fault>,
 }
 
 impl Reads {
+    /// Makes what no reads found.
+    fn new() -> Reads {
+        Reads {
+            count: 0,
+            found: 0,
+            digest: Digest::new(),
+            fault: None,
+        }
+    }
+
+    /// Notes why there is no read.
+    fn note(&mut self, fault: Fault) {
+        self.fault = self.fault.or(Some(fault));
+    }
+
+    /// Adds what a read returns, or notes why it returns nothing.
+    fn add(&mut self, answer: Result<String>) {
+        match answer {
+            Ok(answer) => self.push(answer.as_str()),
+            Err(fault) => self.note(fault),
+        }
+    }
+
+    /// Returns how many reads there are and how many found an entry, and the digest of all.
+    fn text(&self, alloc: Global) -> Result<String> {
+        if let Some(fault) = self.fault {
+            return Err(fault);
+        }
+        let (count, found, state) = (self.count, self.found, self.digest.state);
+        Ok(format!(in alloc; "{count} reads, {found} found, {state:016x}")?)
+    }
+
     /// Adds what a read found.
-    fn add(&mut self, answer: &str) {
+    fn push(&mut self, answer: &str) {
         self.count = self.count.saturating_add(1);
         if answer != "none" {
             self.found = self.found.saturating_add(1);
@@ -172,11 +221,12 @@ fn add_reads<H: BlockHash>(
     reads: &mut Reads,
     blocks: Blocks<'_, H>,
     entry: &InternalValue,
-) -> Result<()> {
+) {
     let (key, seqno) = (entry.key().user_key().as_slice(), entry.key().seqno());
     let next = seqno.wrapping_add(1);
     let (Some((last, prefix)), Some((_, end))) = (key.split_last(), key.split_first()) else {
-        return Err(Fault::Word);
+        reads.note(Fault::Word);
+        return;
     };
     let queries = [
         (key, None, seqno),
@@ -188,9 +238,8 @@ fn add_reads<H: BlockHash>(
         (end, None, seqno),
     ];
     for (prefix, last, seqno) in &queries {
-        reads.add(read_extended(alloc, blocks, prefix, *last, *seqno)?.as_str());
+        reads.add(read_extended(alloc, blocks, prefix, *last, *seqno));
     }
-    Ok(())
 }
 
 /// Reads around an entry that borrows its block.
@@ -199,24 +248,21 @@ fn add_around<H: BlockHash>(
     reads: &mut Reads,
     blocks: Blocks<'_, H>,
     entry: &EntryView<'_>,
-) -> Result<()> {
-    let entry = entry.to_entry(alloc)?;
-    add_reads(alloc, reads, blocks, &entry)
+) {
+    match entry.to_entry(alloc) {
+        Ok(entry) => add_reads(alloc, reads, blocks, &entry),
+        Err(error) => reads.note(error.into()),
+    }
 }
 
 /// Point reads around each entry, and their digest.
 pub fn queries<H: BlockHash>(alloc: Global, opened: &Opened<H>) -> Result<String> {
     let blocks = opened.both()?;
-    let mut reads = Reads {
-        count: 0,
-        found: 0,
-        digest: Digest::new(),
-    };
+    let mut reads = Reads::new();
     for entry in blocks.0.entries() {
-        add_around(alloc, &mut reads, blocks, &entry)?;
+        add_around(alloc, &mut reads, blocks, &entry);
     }
-    let (count, found, state) = (reads.count, reads.found, reads.digest.state);
-    Ok(format!(in alloc; "{count} reads, {found} found, {state:016x}")?)
+    reads.text(alloc)
 }
 
 /// Appends an entry that borrows its block to a list.
@@ -229,6 +275,18 @@ fn push_entry(
     Ok(())
 }
 
+/// Appends the entries of a block to a list.
+fn push_entries<H: BlockHash>(
+    alloc: Global,
+    entries: &mut Vec<InternalValue>,
+    block: &DataBlock<H>,
+) -> Result<()> {
+    for entry in block.entries() {
+        push_entry(alloc, entries, &entry)?;
+    }
+    Ok(())
+}
+
 /// Takes the entries of the payload as the list.
 pub fn take<H: BlockHash>(
     alloc: Global,
@@ -237,25 +295,17 @@ pub fn take<H: BlockHash>(
 ) -> Result<String> {
     let block = opened.bare()?;
     *entries = Vec::new(alloc);
-    for entry in block.entries() {
-        push_entry(alloc, entries, &entry)?;
-    }
+    push_entries(alloc, entries, block)?;
     Ok(format!(in alloc; "{} entries", entries.len())?)
 }
 
-/// The number of entries, and the digest of their words.
-fn counted(alloc: Global, count: usize, digest: &Digest) -> Result<String> {
-    let state = digest.state;
-    Ok(format!(in alloc; "{count} entries, {state:016x}")?)
-}
-
-/// The number and the digest of the words of entries.
-fn digest_of(alloc: Global, words: &[String]) -> Result<String> {
-    let mut digest = Digest::new();
-    for word in words {
-        digest.add(word.as_str());
+/// The number and the digest of the words of entries, from the last to the first.
+fn digest_back(alloc: Global, words: &[String]) -> Result<String> {
+    let mut all = Counted::new();
+    for word in words.iter().rev() {
+        all.push(word.as_str());
     }
-    counted(alloc, words.len(), &digest)
+    all.text(alloc, "entries")
 }
 
 /// The word of an item of a payload.
@@ -267,12 +317,11 @@ fn word_of_item(alloc: Global, payload: &Slice, item: &DataBlockParsedItem) -> R
 
 /// The entries of a block by its items.
 fn by_items<H: BlockHash>(alloc: Global, block: &DataBlock<H>) -> Result<String> {
-    let (mut count, mut digest) = (0usize, Digest::new());
+    let mut all = Counted::new();
     for item in block.iter() {
-        digest.add(word_of_item(alloc, block.as_slice(), &item)?.as_str());
-        count = count.saturating_add(1);
+        all.add(word_of_item(alloc, block.as_slice(), &item));
     }
-    counted(alloc, count, &digest)
+    all.text(alloc, "entries")
 }
 
 /// The word of an entry that borrows its block.
@@ -282,22 +331,31 @@ pub fn word_of_view(alloc: Global, view: &EntryView<'_>) -> Result<String> {
 
 /// The entries of a block, each of which borrows it, from the front.
 fn by_views<H: BlockHash>(alloc: Global, page: &DataBlockRef<'_, H>) -> Result<String> {
-    let (mut count, mut digest) = (0usize, Digest::new());
+    let mut all = Counted::new();
     for view in page.entries() {
-        digest.add(word_of_view(alloc, &view)?.as_str());
-        count = count.saturating_add(1);
+        all.add(word_of_view(alloc, &view));
     }
-    counted(alloc, count, &digest)
+    all.text(alloc, "entries")
+}
+
+/// Appends the word of an entry that borrows its block.
+fn push_view(alloc: Global, words: &mut Vec<String>, view: &EntryView<'_>) -> Result<()> {
+    Ok(words.push(word_of_view(alloc, view)?)?)
+}
+
+/// The words of the entries of a block, each of which borrows it, from the back.
+fn words_back<H: BlockHash>(alloc: Global, page: &DataBlockRef<'_, H>) -> Result<Vec<String>> {
+    let mut words = Vec::new(alloc);
+    for view in page.entries().rev() {
+        push_view(alloc, &mut words, &view)?;
+    }
+    Ok(words)
 }
 
 /// The entries of a block, each of which borrows it, from the back.
 fn by_views_back<H: BlockHash>(alloc: Global, page: &DataBlockRef<'_, H>) -> Result<String> {
-    let mut words = Vec::new(alloc);
-    for view in page.entries().rev() {
-        words.push(word_of_view(alloc, &view)?)?;
-    }
-    words.reverse();
-    digest_of(alloc, words.as_slice())
+    let words = words_back(alloc, page)?;
+    digest_back(alloc, words.as_slice())
 }
 
 /// The entries of the payload, which is lent, with a table of their heads that is lent too.

@@ -19,6 +19,11 @@ pub fn offsets<H: BlockHash>(alloc: Global, opened: &Opened<H>) -> Result<String
     row.text()
 }
 
+/// The text of three counts.
+fn text_of_counts(alloc: Global, below: usize, at_most: usize, index: usize) -> Result<String> {
+    Ok(format!(in alloc; "{below}/{at_most}/{index}")?)
+}
+
 /// How many heads have a key below a needle, how many one of at most it, and how many an index seek
 /// passes over, by the table of a block.
 fn counts_by<H: BlockHash>(
@@ -34,7 +39,7 @@ fn counts_by<H: BlockHash>(
     let below = table.count_below(payload, needle, &mut steps);
     let at_most = table.count_at_most(payload, needle, &mut steps);
     let index = table.count_index(payload, needle, seqno, &mut steps);
-    Ok(format!(in alloc; "{below}/{at_most}/{index}")?)
+    text_of_counts(alloc, below, at_most, index)
 }
 
 /// The same of a needle's word.

@@ -2,7 +2,7 @@
 ghost use Rattle.std.specs.Prelude.{◌≡◌, IfSome};
 ghost use Rattle.sst_block_core.specs.ParsedHandle.{IsParsedHandle};
 
-use crate::digest::Digest;
+use crate::digest::Counted;
 use crate::fault::{Fault, Result};
 use crate::indexes::handles::word_of;
 use crate::indexes::index_block;
@@ -275,12 +275,11 @@ fn between(alloc: Global, room: &Room, words: &[&str]) -> Result<String> {
 
 /// The number and the digest of the words of handles.
 fn digest_of(alloc: Global, words: &[String]) -> Result<String> {
-    let mut digest = Digest::new();
+    let mut all = Counted::new();
     for word in words {
-        digest.add(word.as_str());
+        all.push(word.as_str());
     }
-    let (count, state) = (words.len(), digest.state);
-    Ok(format!(in alloc; "{count} handles, {state:016x}")?)
+    all.text(alloc, "handles")
 }
 
 /// The digest of handles from the front.

@@ -20,6 +20,18 @@ fn ratio<H: BlockHash>(alloc: Global, words: &[&str]) -> Result<String> {
     Ok(format!(in alloc; "{}", builder.bucket_count())?)
 }
 
+/// Whether each of two numbers is kept in the bucket of these bytes, its byte, and how many
+/// conflicts there are.
+fn text_of_bucket<H: BlockHash>(alloc: Global, bytes: &[u8], kept: (bool, bool)) -> Result<String> {
+    if bytes.len() != 1 {
+        return Err(Fault::Word);
+    }
+    let reader = hash_index::Reader::<H>::new(bytes, 0, 1);
+    let (byte, conflicts) = (reader.get(b"c"), reader.conflict_count());
+    let (one, other) = kept;
+    Ok(format!(in alloc; "{one} {other} {byte}, {conflicts} conflicts")?)
+}
+
 /// Two interval numbers that are set in one bucket: whether each is kept, the bucket's byte, and
 /// how many conflicts there are: NUMBER NUMBER.
 fn set_two<H: BlockHash>(alloc: Global, words: &[&str]) -> Result<String> {
@@ -31,24 +43,24 @@ fn set_two<H: BlockHash>(alloc: Global, words: &[&str]) -> Result<String> {
         return Err(Fault::Word);
     }
     let mut builder = hash_index::Builder::<H>::with_bucket_count(alloc, 1)?;
-    let (one, other) = (builder.set(b"a", first), builder.set(b"b", second));
+    let kept = (builder.set(b"a", first), builder.set(b"b", second));
     let mut bytes = Vec::new(alloc);
     builder.write(&mut bytes)?;
-    if bytes.len() != 1 {
-        return Err(Fault::Word);
-    }
-    let reader = hash_index::Reader::<H>::new(bytes.as_slice(), 0, 1);
-    let (byte, conflicts) = (reader.get(b"c"), reader.conflict_count());
-    Ok(format!(in alloc; "{one} {other} {byte}, {conflicts} conflicts")?)
+    text_of_bucket::<H>(alloc, bytes.as_slice(), kept)
 }
 
-/// The pointers in bytes: BYTES OFFSET COUNT WIDTH.
-fn pointers(alloc: Global, words: &[&str]) -> Result<String> {
-    let [bytes, offset, count, width] = words else {
-        return Err(Fault::Word);
-    };
-    let bytes = bytes_of(alloc, bytes)?;
-    let (offset, count, width) = (small_of(offset)?, small_of(count)?, small_of(width)?);
+/// The number of pointers, and each of them.
+fn text_of_pointers(alloc: Global, reader: &binary_index::Reader<'_>) -> Result<String> {
+    let mut row = Row::new(alloc);
+    row.add(word_of_number(alloc, reader.len() as u64));
+    for at in 0..reader.len() {
+        row.add(word_of_number(alloc, reader.get(at) as u64));
+    }
+    row.text()
+}
+
+/// The pointers in bytes from an offset on, of a count and a width.
+fn pointers_in(alloc: Global, bytes: &[u8], offset: u8, count: u8, width: u8) -> Result<String> {
     if width != 2 && width != 4 {
         return Err(Fault::Word);
     }
@@ -56,13 +68,22 @@ fn pointers(alloc: Global, words: &[&str]) -> Result<String> {
         return Err(Fault::Word);
     }
     let (offset, count) = (u32::from(offset), u32::from(count));
-    let reader = binary_index::Reader::new(bytes.as_slice(), offset, count, width);
-    let mut row = Row::new(alloc);
-    row.add(word_of_number(alloc, reader.len() as u64));
-    for at in 0..reader.len() {
-        row.add(word_of_number(alloc, reader.get(at) as u64));
+    text_of_pointers(
+        alloc,
+        &binary_index::Reader::new(bytes, offset, count, width),
+    )
+}
+
+/// The pointers in bytes: BYTES OFFSET COUNT WIDTH.
+fn pointers(alloc: Global, words: &[&str]) -> Result<String> {
+    let [bytes, offset, count, width] = words else {
+        return Err(Fault::Word);
+    };
+    let (offset, count, width) = (small_of(offset)?, small_of(count)?, small_of(width)?);
+    match bytes_of(alloc, bytes) {
+        Ok(bytes) => pointers_in(alloc, bytes.as_slice(), offset, count, width),
+        Err(fault) => Err(fault),
     }
-    row.text()
 }
 
 /// Performs a command, if it is one on indexes.

@@ -37,7 +37,7 @@ fn end_with(
     }
 }
 
-/// Returns the start of a range: `*`, or a key behind `[` or `(`.
+/// Returns the start of a range: `*`, or a key after `[` or `(`.
 pub fn start_of(alloc: Global, word: &str) -> Result<End> {
     end_with(alloc, word, word.strip_prefix('['), word.strip_prefix('('))
 }

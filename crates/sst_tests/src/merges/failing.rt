@@ -199,7 +199,7 @@ fn counts_ahead(alloc: Global, steps: usize) -> Result<(usize, bool)> {
     }
 }
 
-// The look ahead behind the tombstone fails, or the step after the version that it holds.
+// The look ahead after the tombstone fails, or the step after the version that it holds.
 #[test]
 fn a_failed_look_ahead_ends_a_compaction(rt: HostRuntime) -> Tested {
     assert_eq!(rt; counts_ahead(rt.alloc(), 1)?, (0, true));
@@ -341,16 +341,27 @@ fn has_ended<I: Source<InternalValue>>(
 }
 
 /// The error of writing a table of a source, and whether the source has then ended with this one.
+fn ends_with<I: Source<InternalValue>, W: Output + Drop>(
+    alloc: Global,
+    source: &mut Head<InternalValue, I>,
+    writer: W,
+    wanted: Error,
+) -> (Option<Error>, bool) {
+    let found = written(alloc, source, writer).err();
+    (found, has_ended(alloc, source, wanted))
+}
+
+/// The same of a source that is let go.
 fn ends_by<I: Source<InternalValue> + Drop, W: Output + Drop>(
     alloc: Global,
     source: I,
     writer: W,
     wanted: Error,
 ) -> Result<(Option<Error>, bool)> {
-    let mut source = Head::new(alloc, source)?;
-    let found = written(alloc, &mut source, writer).err();
-    let has_ended = has_ended(alloc, &mut source, wanted);
-    Ok((found, has_ended))
+    match Head::new(alloc, source) {
+        Ok(mut source) => Ok(ends_with(alloc, &mut source, writer, wanted)),
+        Err(error) => Err(error),
+    }
 }
 
 /// What ends a source whose table is written to an output that fails.

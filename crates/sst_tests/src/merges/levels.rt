@@ -1,4 +1,4 @@
-//! Reads of levels: a level that fails is not asked behind a match.
+//! Reads of levels: a level that fails is not asked after a match.
 ghost use Rattle.std.specs.Prelude.{None};
 
 use crate::merges::lists::{Row, T, entry_of};

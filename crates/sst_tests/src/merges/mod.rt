@@ -2,7 +2,7 @@
 //! and the functions that use the library.
 mod failing;
 mod levels;
-mod lists;
+pub(crate) mod lists;
 mod many;
 mod moved;
 mod tables;
