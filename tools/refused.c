@@ -26,11 +26,15 @@ static uint8_t block_type;
 static size_t count;
 static struct sst_run_handles frames, found;
 static struct sst_summary summary;
+static uint64_t hashes[3];
+static struct sst_check_end end;
 
 static void clear(void) {
     memset(out, UNTOUCHED, sizeof out);
     memset(&found, UNTOUCHED, sizeof found);
     memset(&summary, UNTOUCHED, sizeof summary);
+    memset(hashes, UNTOUCHED, sizeof hashes);
+    memset(&end, UNTOUCHED, sizeof end);
     out_len = count = UNTOUCHED;
     block_type = UNTOUCHED;
 }
@@ -44,7 +48,8 @@ static int all_untouched(const void *place, size_t len) {
 
 static int is_left(void) {
     return all_untouched(out, sizeof out) && all_untouched(&found, sizeof found) &&
-           all_untouched(&summary, sizeof summary) && out_len == UNTOUCHED && count == UNTOUCHED &&
+           all_untouched(&summary, sizeof summary) && all_untouched(hashes, sizeof hashes) &&
+           all_untouched(&end, sizeof end) && out_len == UNTOUCHED && count == UNTOUCHED &&
            block_type == UNTOUCHED;
 }
 
@@ -110,6 +115,16 @@ static uint32_t perform(const char *operation, int *is_found) {
     } else if (strcmp(operation, "c_run_write") == 0) {
         status = write_run(out, &out_len, &found);
         *is_found = status == SST_OK ? entries_in(1) : 0;
+    } else if (strcmp(operation, "c_run_block_write") == 0) {
+        status = sst_run_block_write(entries, 3, &config, out, sizeof out, &out_len, hashes, 3);
+        *is_found = status == SST_OK && hashes[0] == hashes[1] && hashes[1] != hashes[2];
+    } else if (strcmp(operation, "c_run_end_write") == 0) {
+        static const uint64_t given_hashes[2] = {1, 2};
+        status = sst_run_end_write(handles, 2, given_hashes, 2, &config, out, sizeof out, &out_len, &found);
+        *is_found = status == SST_OK && found.index_offset == 20 && found.filter_offset + found.filter_size == 20 + out_len;
+    } else if (strcmp(operation, "c_run_check_at") == 0) {
+        status = sst_run_check_at(given, given_len, &frames, &summary, &end);
+        *is_found = (int)summary.entries;
     } else if (strcmp(operation, "c_run_check") == 0) {
         status = sst_run_check(given, given_len, &frames, &summary);
         *is_found = (int)summary.entries;
@@ -123,7 +138,7 @@ static uint32_t set_up(const char *operation) {
         return encode(given, &given_len);
     if (strcmp(operation, "c_frame_check") == 0)
         return sst_frame_write(key_a, key_len, 0, given, sizeof given, &given_len);
-    if (strcmp(operation, "c_run_check") == 0)
+    if (strncmp(operation, "c_run_check", 11) == 0)
         return write_run(given, &given_len, &frames);
     return SST_OK;
 }

@@ -11,6 +11,7 @@
 #include "sst.h"
 
 #include <algorithm>
+#include <concepts>
 #include <cstring>
 #include <iterator>
 #include <memory>
@@ -38,8 +39,10 @@ struct bytes : std::span<const uint8_t> {
 
 /* What a call refused. */
 struct error : std::runtime_error {
-    explicit error(uint32_t status) : std::runtime_error(sst_error_name(status)), status(status) {}
-    uint32_t status; /* of enum sst_status */
+    explicit error(uint32_t status, std::optional<sst_check_end> end = {})
+        : std::runtime_error(sst_error_name(status)), status(status), end(end) {}
+    uint32_t status;                  /* of enum sst_status */
+    std::optional<sst_check_end> end; /* where a check of a table ended */
 };
 
 /* An entry of a table, whose bytes are lent. Its key is the prefix and then the rest. */
@@ -64,11 +67,13 @@ struct entry {
 /* A table file over bytes that are lent. */
 class table {
   public:
-    /* Checks all bytes of a file. Throws error with what the check met first. */
+    /* Checks all bytes of a file. Throws error with what the check met first, and where it ended. */
     static table check(bytes file) {
         table found(file);
-        if (uint32_t status = sst_run_check(found.run_.data(), found.run_.size(), &found.handles_, &found.summary_))
-            throw error(status);
+        sst_check_end end;
+        if (uint32_t status =
+                sst_run_check_at(found.run_.lent(), found.run_.size(), &found.handles_, &found.summary_, &end))
+            throw error(status, status == SST_MEMORY ? std::nullopt : std::optional(end));
         return found;
     }
 
@@ -76,7 +81,7 @@ class table {
        of other bytes are undefined. Its summary has the number of blocks alone. */
     static table trusted(bytes file) {
         table found(file);
-        found.summary_ = {sst_run_block_count(found.run_.data(), found.run_.size(), &found.handles_), 0, 0, 0};
+        found.summary_ = {found.window({}, {}).end_block + 1, 0, 0, 0};
         return found;
     }
 
@@ -122,7 +127,7 @@ class table {
 
       private:
         friend table;
-        iterator(const table *over, size_t block) : table_(over) { go_to(block); }
+        iterator(const table *over, size_t block, size_t place) : table_(over), place_(place) { go_to(block); }
         void go_to(size_t block) {
             block_ = block;
             places_ = table_->places_of(block);
@@ -132,19 +137,16 @@ class table {
         size_t block_ = 0, place_ = 0;
     };
 
-    iterator begin() const { return {this, 0}; }
-    iterator end() const { return {this, summary_.blocks}; }
+    iterator begin() const { return {this, 0, 0}; }
+    iterator end() const { return {this, summary_.blocks, 0}; }
     auto rbegin() const { return std::make_reverse_iterator(end()); }
     auto rend() const { return std::make_reverse_iterator(begin()); }
 
     /* The first entry whose key is not below this one. */
     iterator lower_bound(bytes key) const {
-        iterator at(this, sst_run_seek(run_.data(), run_.size(), &handles_, key.lent(), key.size()));
-        if (at.places_)
-            at.place_ = std::partition_point(at.places_->begin(), at.places_->end(),
-                                             [&](const sst_place &p) { return entry_at(p).compare(key) < 0; }) -
-                        at.places_->begin();
-        return at;
+        sst_window from = window(key, {});
+        bool none = from.first_block == from.end_block && from.first_index == from.end_index;
+        return none ? end() : iterator(this, from.first_block, from.first_index);
     }
 
     /* The entries of a range of keys that are below a number, from both ends, read in batches. It keeps the
@@ -197,13 +199,8 @@ class table {
             return table_->entry_at(last);
         }
         void fill(batch &near, uint8_t reverse) {
-            size_t count = 0;
             near.places.resize(room_), near.first = 0;
-            if (uint32_t status = sst_run_scan(table_->run_.data(), table_->run_.size(), &table_->handles_, &window_,
-                                               below_.has_value(), below_.value_or(0), reverse, near.places.data(), room_,
-                                               &count))
-                throw error(status);
-            near.places.resize(count);
+            near.places.resize(table_->list(window_, below_, reverse, near.places));
         }
         const table *table_;
         sst_window window_;
@@ -216,11 +213,7 @@ class table {
        given, in batches of `batch`, at least 1. */
     range scan(std::optional<bytes> from = {}, std::optional<bytes> to = {}, std::optional<uint64_t> below = {},
                size_t batch = 64) const {
-        sst_window window;
-        bytes start = from.value_or(bytes("")), stop = to.value_or(bytes(""));
-        sst_run_range(run_.data(), run_.size(), &handles_, from.has_value(), start.lent(), start.size(), to.has_value(),
-                      stop.lent(), stop.size(), &window);
-        return {this, window, below, batch};
+        return {this, window(from, to), below, batch};
     }
 
   private:
@@ -233,13 +226,36 @@ class table {
         return {part(at.prefix_offset, at.prefix_len), part(at.key_offset, at.key_len),
                 part(at.value_offset, at.value_len), at.seqno, static_cast<sst_value_type>(at.value_type)};
     }
+    /* The window of the entries of a range of keys. */
+    sst_window window(std::optional<bytes> from, std::optional<bytes> to) const {
+        sst_window found;
+        bytes start = from.value_or(bytes("")), stop = to.value_or(bytes(""));
+        sst_run_range(run_.data(), run_.size(), &handles_, from.has_value(), start.lent(), start.size(), to.has_value(),
+                      stop.lent(), stop.size(), &found);
+        return found;
+    }
+    /* Lists the next entries that a window has left, and returns their number: below that of the places where
+       nothing is left then. */
+    size_t list(sst_window &left, std::optional<uint64_t> below, uint8_t reverse, std::span<sst_place> places) const {
+        size_t count = 0;
+        if (uint32_t status = sst_run_scan(run_.data(), run_.size(), &handles_, &left, below.has_value(),
+                                           below.value_or(0), reverse, places.data(), places.size(), &count))
+            throw error(status);
+        return count;
+    }
+    /* The places of the entries of a block, if there is one. */
     std::shared_ptr<const std::vector<sst_place>> places_of(size_t block) const {
         if (block >= summary_.blocks) return nullptr;
-        size_t count = 0;
-        sst_place none;
-        sst_run_block_entries(run_.data(), run_.size(), &handles_, block, &none, 0, &count);
-        auto places = std::make_shared<std::vector<sst_place>>(count);
-        sst_run_block_entries(run_.data(), run_.size(), &handles_, block, places->data(), count, &count);
+        sst_window left = window({}, {});
+        left.first_block = block;
+        if (block < left.end_block) left.end_block = block + 1, left.end_index = 0;
+        auto places = std::make_shared<std::vector<sst_place>>();
+        size_t listed = 0;
+        do {
+            places->resize(std::max<size_t>(2 * listed, 64));
+            listed += list(left, {}, 0, std::span(*places).subspan(listed));
+        } while (listed == places->size());
+        places->resize(listed);
         return places;
     }
 
@@ -282,106 +298,101 @@ inline std::vector<uint8_t> write(std::span<const sst_entry> entries, size_t blo
     return out;
 }
 
-/* Writes a table piece by piece, the bytes that write() makes of the same entries. What is finished can be
-   taken at any time. Kept are the entries of one block, a handle for each block, and, where there is a
-   filter, all keys. */
-class writer {
+/* Writes a table file entry by entry: the bytes that write() makes of the same entries, passed to a sink as they
+   are finished, a frame at a time. Kept are the entries of one block, and of the blocks before it a handle for
+   each and, where there is a filter, a hash of 8 bytes for each entry.
+
+       sst::writer writer([&](sst::bytes frame) { file.write(...); });
+       for (...) writer.add(key, seqno, value);
+       writer.finish(); */
+template <std::invocable<bytes> Sink> class writer {
   public:
-    explicit writer(size_t block_size = 4096, const sst_run_config &config = {0, 1, 10, 16, 1})
-        : block_size_(block_size), config_(config) {}
+    explicit writer(Sink sink, size_t block_size = 4096, const sst_run_config &config = {0, 1, 10, 16, 1})
+        : sink_(std::move(sink)), block_size_(block_size), config_(config), out_(block_size + 4096) {}
 
     /* Adds an entry. Throws error: SST_OUT_OF_ORDER where it sorts before the one added last, SST_BAD_ARGUMENT
-       where it is no entry; the table goes on without it. */
+       where it is no entry; the table goes on without it. After another error, or one that the sink throws, the
+       table can't be finished. */
     void add(bytes key, uint64_t seqno, bytes value, sst_value_type type = SST_VALUE) {
         if (key.empty() || key.size() > 65535 || value.size() > UINT32_MAX) throw error(SST_BAD_ARGUMENT);
-        if (int order = has_last_ ? key.text().compare(last_key_) : 1; order < 0 || (order == 0 && seqno > last_seqno_))
-            throw error(SST_OUT_OF_ORDER);
-        if (!rows_.empty() && held_ >= block_size_) close_block();
-        rows_.push_back({key.text(), value.text(), seqno, type});
-        held_ += key.size() + value.size();
-        if (config_.bits_per_key > 0) keys_.push_back(key.text());
-        last_key_ = key.text(), last_seqno_ = seqno, has_last_ = true;
+        if (!rows_.empty() || !ends_.empty()) {
+            auto [last, last_seqno] = rows_.empty() ? std::pair(bytes(ends_.back().key), ends_.back().seqno)
+                                                    : std::pair(key_of(rows_.back()), rows_.back().seqno);
+            int order = entry{key, {}, {}, 0, SST_VALUE}.compare(last);
+            if (order < 0 || (order == 0 && seqno > last_seqno)) throw error(SST_OUT_OF_ORDER);
+        }
+        if (!rows_.empty() && held_.size() >= block_size_) close_block();
+        rows_.push_back({held_.size(), key.size(), value.size(), seqno, type});
+        held_.insert(held_.end(), key.begin(), key.end());
+        held_.insert(held_.end(), value.begin(), value.end());
     }
 
-    /* Takes the bytes that are finished and were not taken before. */
-    std::vector<uint8_t> take() { return std::exchange(out_, {}); }
-
-    /* Ends the table, and returns its last bytes. Throws error: SST_BAD_ARGUMENT where no entry was added. */
-    std::vector<uint8_t> finish() {
+    /* Ends the table: passes on the last block, the index, the filter and the footer. Throws error:
+       SST_BAD_ARGUMENT where no entry was added. */
+    void finish() {
         close_block();
         std::vector<sst_keyed_handle> handles;
         for (const end &end : ends_)
-            handles.push_back({bytes(end.key).lent(), end.key.size(), end.seqno, end.at.offset, end.at.size});
-        sst_handle index = close(1, filled([&](uint8_t *out, size_t cap, size_t *len) {
-            return sst_index_block_encode(handles.data(), handles.size(), config_.index_interval, out, cap, len);
-        }));
-        sst_handle filter{0, 0};
-        if (!keys_.empty()) {
-            std::vector<sst_bytes> keys;
-            for (const std::string &key : keys_) keys.push_back({bytes(key).lent(), key.size()});
-            filter = close(2, filled([&](uint8_t *out, size_t cap, size_t *len) {
-                return sst_filter_build(keys.data(), keys.size(), config_.bits_per_key, out, cap, len);
-            }));
-        }
-        sst_run_handles all{index.offset, filter.offset, index.size, filter.size};
-        append(filled([&](uint8_t *out, size_t cap, size_t *len) { return sst_footer_write(&all, out, cap, len); }));
-        return take();
+            handles.push_back({bytes(end.key).lent(), end.key.size(), end.seqno, end.offset, end.size});
+        sst_run_handles all;
+        uint64_t none = 0;
+        pass_on([&](uint8_t *out, size_t cap, size_t *len) {
+            return sst_run_end_write(handles.data(), handles.size(), hashes_.empty() ? &none : hashes_.data(),
+                                     hashes_.size(), &config_, out, cap, len, &all);
+        });
+        pass_on([&](uint8_t *out, size_t cap, size_t *len) { return sst_footer_write(&all, out, cap, len); });
     }
 
   private:
     struct row {
-        std::string key, value;
+        size_t offset, key_len, value_len; /* in held_ */
         uint64_t seqno;
         sst_value_type type;
     };
     struct end {
         std::string key;
-        uint64_t seqno;
-        sst_handle at;
+        uint64_t seqno, offset;
+        uint32_t size;
     };
 
-    /* What a call makes that tells how much room it needs. */
-    template <class Call> static std::vector<uint8_t> filled(Call call) {
-        std::vector<uint8_t> out(4096);
+    bytes key_of(const row &row) const { return bytes(std::span(held_).subspan(row.offset, row.key_len)); }
+    /* Passes on what a call writes that says how much capacity it needs. Returns its length. */
+    template <class Call> size_t pass_on(Call call) {
         size_t len = 0;
-        uint32_t status = call(out.data(), out.size(), &len);
-        if (status == SST_NO_ROOM) out.resize(len), status = call(out.data(), out.size(), &len);
+        uint32_t status = call(out_.data(), out_.size(), &len);
+        if (status == SST_NO_ROOM) out_.resize(len), status = call(out_.data(), out_.size(), &len);
         if (status) throw error(status);
-        out.resize(len);
-        return out;
-    }
-    void append(const std::vector<uint8_t> &made) { out_.insert(out_.end(), made.begin(), made.end()); }
-    sst_handle close(uint8_t type, const std::vector<uint8_t> &payload) {
-        auto frame = filled([&](uint8_t *out, size_t cap, size_t *len) {
-            return sst_frame_write(payload.data(), payload.size(), type, out, cap, len);
-        });
-        sst_handle at{len_, static_cast<uint32_t>(frame.size())};
-        len_ += frame.size();
-        append(frame);
-        return at;
+        sink_(bytes(std::span(out_).first(len)));
+        return len;
     }
     void close_block() {
-        std::vector<sst_entry> entries;
-        for (const row &row : rows_) entries.push_back(given(row.key, row.seqno, row.value, row.type));
-        sst_entry none{};
-        auto payload = filled([&](uint8_t *out, size_t cap, size_t *len) {
-            return sst_data_block_encode(entries.empty() ? &none : entries.data(), entries.size(), config_.restart_interval,
-                                         config_.num, config_.den, out, cap, len);
+        if (rows_.empty()) throw error(SST_BAD_ARGUMENT);
+        entries_.clear();
+        for (const row &row : rows_)
+            entries_.push_back({held_.data() + row.offset, row.key_len, held_.data() + row.offset + row.key_len,
+                                row.value_len, row.seqno, static_cast<uint8_t>(row.type)});
+        size_t known = hashes_.size();
+        uint64_t none = 0;
+        if (config_.bits_per_key > 0) hashes_.resize(known + rows_.size());
+        size_t size = pass_on([&](uint8_t *out, size_t cap, size_t *len) {
+            return sst_run_block_write(entries_.data(), entries_.size(), &config_, out, cap, len,
+                                       hashes_.empty() ? &none : hashes_.data() + known, hashes_.size() - known);
         });
-        sst_handle at = close(0, payload);
-        ends_.push_back({rows_.back().key, rows_.back().seqno, at});
-        rows_.clear(), held_ = 0;
+        ends_.push_back({key_of(rows_.back()).text(), rows_.back().seqno, len_, static_cast<uint32_t>(size)});
+        len_ += size;
+        rows_.clear(), held_.clear();
     }
 
-    size_t block_size_, held_ = 0;
+    Sink sink_;
+    size_t block_size_;
     sst_run_config config_;
+    std::vector<uint8_t> held_; /* the keys and values of the block's entries */
     std::vector<row> rows_;
+    std::vector<sst_entry> entries_;
     std::vector<end> ends_;
-    std::vector<std::string> keys_;
+    std::vector<uint64_t> hashes_;
     std::vector<uint8_t> out_;
-    uint64_t len_ = 0, last_seqno_ = 0;
-    std::string last_key_;
-    bool has_last_ = false;
+    uint64_t len_ = 0;
 };
 
 } // namespace sst

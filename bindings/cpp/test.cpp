@@ -42,16 +42,44 @@ std::vector<uint8_t> file_of(const std::vector<row> &rows, size_t block_size, co
     return sst::write(entries, block_size, config);
 }
 
-std::vector<uint8_t> in_pieces(const std::vector<row> &rows, size_t block_size, const sst_run_config &config) {
-    sst::writer writer(block_size, config);
+/* A sink that appends to a file in memory, and counts what it is passed. */
+struct memory {
     std::vector<uint8_t> file;
-    auto append = [&](const std::vector<uint8_t> &piece) { file.insert(file.end(), piece.begin(), piece.end()); };
-    for (size_t i = 0; i < rows.size(); i++) {
-        writer.add(rows[i].key, rows[i].seqno, rows[i].value, rows[i].type);
-        if (i % 7 == 0) append(writer.take());
+    size_t pieces = 0;
+    auto sink() {
+        return [this](sst::bytes piece) { file.insert(file.end(), piece.begin(), piece.end()), pieces++; };
     }
-    append(writer.finish());
-    return file;
+};
+
+std::vector<uint8_t> in_pieces(const std::vector<row> &rows, size_t block_size, const sst_run_config &config) {
+    memory memory;
+    sst::writer writer(memory.sink(), block_size, config);
+    for (const row &row : rows) writer.add(row.key, row.seqno, row.value, row.type);
+    writer.finish();
+    return memory.file;
+}
+
+/* A large table, and one whose frames do not fit what the writer begins with. */
+void check_large() {
+    std::vector<row> rows;
+    for (size_t i = 0; i < 100000; i++) {
+        char key[24];
+        std::snprintf(key, sizeof key, "user/%08zu", i / 2);
+        rows.push_back({key, i % 2 ? 3u : 9u, SST_VALUE, std::string(i % 50, 'a' + i % 26)});
+    }
+    for (sst_run_config config : {sst_run_config{0, 1, 10, 16, 1}, sst_run_config{3, 4, 0, 8, 4}}) {
+        auto file = file_of(rows, 4096, config);
+        demand(in_pieces(rows, 4096, config) == file, "100,000 entries in pieces are the same");
+        auto table = sst::table::check(sst::bytes(std::span<const uint8_t>(file)));
+        demand(table.summary().entries == rows.size(), "100,000 entries are counted");
+        demand(std::ranges::equal(table, rows, is), "100,000 entries are read back");
+    }
+    std::vector<row> wide{{"a", 1, SST_VALUE, std::string(100000, 'x')}, {"b", 1, SST_VALUE, std::string(7, 'y')}};
+    demand(in_pieces(wide, 1, {0, 1, 10, 16, 1}) == file_of(wide, 1, {0, 1, 10, 16, 1}), "a long value is written");
+    memory memory;
+    sst::writer writer(memory.sink(), 1000);
+    for (const row &row : rows) writer.add(row.key, row.seqno, row.value, row.type);
+    demand(memory.pieces > 1000, "blocks are passed on while entries are added");
 }
 
 /* Whether a call throws this status. */
@@ -103,6 +131,16 @@ void check_table(const sst::table &table, const std::vector<row> &rows) {
     demand(std::equal(table.lower_bound(""), table.end(), rows.begin(), rows.end(), is), "all from the empty key on");
     check_scan(table, rows, "", "\xff", {}, 64);
 }
+/* Tables of one block, of about as many entries as an iterator reads of a block at a time. */
+void check_one_block() {
+    for (size_t count : {1, 63, 64, 65, 127, 128, 129, 1000}) {
+        auto rows = rows_of(7, count);
+        auto file = file_of(rows, 1 << 20, {0, 1, 10, 16, 1});
+        auto table = sst::table::check(sst::bytes(std::span<const uint8_t>(file)));
+        demand(table.summary().blocks == 1, "all in one block");
+        check_table(table, rows);
+    }
+}
 } // namespace
 
 int main() {
@@ -122,7 +160,8 @@ int main() {
             try {
                 sst::table::check(sst::bytes(std::span<const uint8_t>(file)));
                 demand(false, "a changed byte is refused");
-            } catch (const sst::error &) {
+            } catch (const sst::error &met) {
+                demand(met.end && met.end->offset <= at && at < met.end->offset + met.end->size, "by its frame");
             }
             file[at] ^= 1;
         }
@@ -131,14 +170,18 @@ int main() {
     for (auto bad : {std::vector<row>{}, {{"b", 1, SST_VALUE, ""}, {"a", 1, SST_VALUE, ""}}, {{"", 1, SST_VALUE, ""}}}) {
         demand(throws(SST_BAD_ARGUMENT, [&] { file_of(bad, 1, {0, 1, 0, 1, 1}); }), "such entries are a bad argument");
     }
-    sst::writer writer(1);
-    demand(throws(SST_BAD_ARGUMENT, [&] { sst::writer().finish(); }), "no entries are a bad argument");
+    memory memory, empty;
+    sst::writer writer(memory.sink(), 1), none(empty.sink());
+    demand(throws(SST_BAD_ARGUMENT, [&] { none.finish(); }), "no entries are a bad argument");
     demand(throws(SST_BAD_ARGUMENT, [&] { writer.add("", 1, "v"); }), "no key is a bad argument");
     writer.add("b", 5, "v");
     demand(throws(SST_OUT_OF_ORDER, [&] { writer.add("a", 9, "v"); }), "a lower key is out of order");
     demand(throws(SST_OUT_OF_ORDER, [&] { writer.add("b", 6, "v"); }), "a newer version is out of order");
     writer.add("b", 5, "w");
-    demand(sst::table::check(sst::bytes(std::span<const uint8_t>(writer.finish()))).summary().entries == 2, "two entries");
+    writer.finish();
+    demand(sst::table::check(sst::bytes(std::span<const uint8_t>(memory.file))).summary().entries == 2, "two entries");
+    check_one_block();
+    check_large();
     std::printf("%zu tables, %zu not so\n", tables, failed);
     return failed > 0;
 }

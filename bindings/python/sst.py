@@ -18,7 +18,7 @@ import os
 import typing
 
 MAX_SEQNO = 2**64 - 1
-VERSION = 2
+VERSION = 3
 
 
 class ValueType(enum.IntEnum):
@@ -45,18 +45,28 @@ class Summary(typing.NamedTuple):
     greatest_seqno: int
 
 
+class CheckEnd(typing.NamedTuple):
+    """Where a check of a table ended: the frame that it read last. The part is 0 for a block, 1 for the index,
+    2 for the filter."""
+    part: int
+    block: int
+    offset: int
+    size: int
+
+
 class Error(Exception):
-    """A refusal of the library: the status that a call returned, and its name in sst.h."""
+    """A refusal of the library: the status that a call returned, and its name in sst.h; and where it is that of
+    a check of a table, where that ended."""
     NAMES = ("OK", "IO", "INVALID_HEADER", "INVALID_TAG", "CHECKSUM_MISMATCH", "LENGTH_MISMATCH", "TOO_LONG",
              "TRUNCATED", "BAD_TRAILER", "BAD_ENTRY", "OUT_OF_ORDER", "BAD_INDEX", "BAD_HASH_INDEX", "BAD_FILTER",
              "BAD_HANDLE", "MEMORY", "NOT_FOUND", "BAD_ARGUMENT", "NO_ROOM")
 
-    def __init__(self, status):
+    def __init__(self, status, end=None):
         super().__init__(f"SST_{self.NAMES[status]}")
-        self.status = status
+        self.status, self.end = status, end
 
 
-_NOT_FOUND, _NO_ROOM = 16, 18
+_OUT_OF_ORDER, _MEMORY, _NOT_FOUND, _BAD_ARGUMENT, _NO_ROOM = 10, 15, 16, 17, 18
 _FOOTER = 24
 
 
@@ -81,6 +91,11 @@ class _Handles(ctypes.Structure):
                 ("index_size", ctypes.c_uint32), ("filter_size", ctypes.c_uint32)]
 
 
+class _KeyedHandle(ctypes.Structure):
+    _fields_ = [("end_key", ctypes.c_char_p), ("end_key_len", ctypes.c_size_t), ("seqno", ctypes.c_uint64),
+                ("offset", ctypes.c_uint64), ("size", ctypes.c_uint32)]
+
+
 class _Window(ctypes.Structure):
     _fields_ = [(f"{end}_{what}", ctypes.c_size_t) for end in ("first", "end") for what in ("block", "index")]
 
@@ -88,6 +103,11 @@ class _Window(ctypes.Structure):
 class _Summary(ctypes.Structure):
     _fields_ = [("blocks", ctypes.c_size_t), ("entries", ctypes.c_uint64), ("least_seqno", ctypes.c_uint64),
                 ("greatest_seqno", ctypes.c_uint64)]
+
+
+class _CheckEnd(ctypes.Structure):
+    _fields_ = [("part", ctypes.c_uint8), ("block", ctypes.c_size_t), ("offset", ctypes.c_uint64),
+                ("size", ctypes.c_uint32)]
 
 
 def _load():
@@ -103,16 +123,20 @@ def _load():
             ("sst_version", ctypes.c_uint32, []),
             ("sst_footer_read", ctypes.c_uint32, [address, size, handles]),
             ("sst_footer_write", ctypes.c_uint32, [handles, address, size, count]),
-            ("sst_run_check", ctypes.c_uint32, [address, size, handles, ctypes.POINTER(_Summary)]),
+            ("sst_run_check_at", ctypes.c_uint32,
+             [address, size, handles, ctypes.POINTER(_Summary), ctypes.POINTER(_CheckEnd)]),
             ("sst_run_get", ctypes.c_uint32, [address, size, handles, ctypes.c_char_p, size, ctypes.c_uint64, place]),
-            ("sst_run_block_count", size, [address, size, handles]),
             ("sst_run_range", None, [address, size, handles, ctypes.c_uint8, ctypes.c_char_p, size, ctypes.c_uint8,
                                      ctypes.c_char_p, size, ctypes.POINTER(_Window)]),
             ("sst_run_scan", ctypes.c_uint32, [address, size, handles, ctypes.POINTER(_Window), ctypes.c_uint8,
                                                ctypes.c_uint64, ctypes.c_uint8, place, size, count]),
-            ("sst_run_block_entries", ctypes.c_uint32, [address, size, handles, size, place, size, count]),
             ("sst_run_write", ctypes.c_uint32,
-             [ctypes.POINTER(_Entry), size, count, size, ctypes.POINTER(_Config), address, size, count, handles])):
+             [ctypes.POINTER(_Entry), size, count, size, ctypes.POINTER(_Config), address, size, count, handles]),
+            ("sst_run_block_write", ctypes.c_uint32,
+             [ctypes.POINTER(_Entry), size, ctypes.POINTER(_Config), address, size, count, address, size]),
+            ("sst_run_end_write", ctypes.c_uint32,
+             [ctypes.POINTER(_KeyedHandle), size, address, size, ctypes.POINTER(_Config), address, size, count,
+              handles])):
         function = getattr(lib, call)
         function.restype, function.argtypes = result, words
     if lib.sst_version() != VERSION:
@@ -132,7 +156,7 @@ class Table:
     """A table file in memory. To make one checks all its bytes, so reads need no checks."""
 
     def __init__(self, data):
-        """Checks the bytes of a table file. Raises Error with what the check met first."""
+        """Checks the bytes of a table file. Raises Error with what the check met first, and where it ended."""
         self._data = data
         self._held = None if isinstance(data, bytes) else (ctypes.c_char * len(data)).from_buffer(data)
         self._at = (ctypes.cast(ctypes.c_char_p(data), ctypes.c_void_p).value if self._held is None
@@ -140,8 +164,9 @@ class Table:
         self._handles = _Handles()
         _demand(_LIB.sst_footer_read(self._at, len(data), ctypes.byref(self._handles)))
         self._run = (self._at, len(data) - _FOOTER, ctypes.byref(self._handles))
-        found = _Summary()
-        _demand(_LIB.sst_run_check(*self._run, ctypes.byref(found)))
+        found, end = _Summary(), _CheckEnd()
+        if status := _LIB.sst_run_check_at(*self._run, ctypes.byref(found), ctypes.byref(end)):
+            raise Error(status, None if status == _MEMORY else CheckEnd(end.part, end.block, end.offset, end.size))
         self.summary = Summary(found.blocks, found.entries, found.least_seqno, found.greatest_seqno)
 
     @classmethod
@@ -187,23 +212,21 @@ class Table:
         """The entries of the block at an index from 0, in order."""
         if not 0 <= index < self.summary.blocks:
             raise IndexError(index)
-        count = ctypes.c_size_t()
-        places = (_Place * 0)()
-        while (status := _LIB.sst_run_block_entries(*self._run, index, places, len(places),
-                                                    ctypes.byref(count))) == _NO_ROOM:
-            places = (_Place * count.value)()
-        _demand(status)
-        return [self._entry(at) for at in places]
+        window = self._window(b"", None)
+        window.first_block = index
+        if index < window.end_block:
+            window.end_block, window.end_index = index + 1, 0
+        return list(self._left(window))
 
-    def scan(self, start=b"", end=None, reverse=False, below=None, batch=64):
-        """The entries of the keys from `start` on, up to and without `end` (None: to the last), with numbers
-        strictly below `below` (None: all): by key rising and then by sequence number falling, all versions, tombstones
-        too; or backwards. They are read in batches of so many, at least 1."""
-        if batch < 1:
-            raise ValueError("a batch has at least one entry")
-        window, count, places = _Window(), ctypes.c_size_t(), (_Place * batch)()
-        to = b"" if end is None else end
+    def _window(self, start, end):
+        """The window of the entries of a range of keys."""
+        window, to = _Window(), b"" if end is None else end
         _LIB.sst_run_range(*self._run, True, start, len(start), end is not None, to, len(to), ctypes.byref(window))
+        return window
+
+    def _left(self, window, reverse=False, below=None, batch=64):
+        """The entries that a window has left, from one end, read in batches."""
+        count, places = ctypes.c_size_t(), (_Place * batch)()
         while True:
             _demand(_LIB.sst_run_scan(*self._run, ctypes.byref(window), below is not None, below or 0, reverse,
                                       places, batch, ctypes.byref(count)))
@@ -212,11 +235,24 @@ class Table:
             for at in places[:count.value]:
                 yield self._entry(at)
 
+    def scan(self, start=b"", end=None, reverse=False, below=None, batch=64):
+        """The entries of the keys from `start` on, up to and without `end` (None: to the last), with numbers
+        strictly below `below` (None: all): by key rising and then by sequence number falling, all versions, tombstones
+        too; or backwards. They are read in batches of so many, at least 1."""
+        if batch < 1:
+            raise ValueError("a batch has at least one entry")
+        return self._left(self._window(start, end), reverse, below, batch)
+
     def __iter__(self):
         return self.scan()
 
     def __reversed__(self):
         return self.scan(reverse=True)
+
+
+def _given(entries):
+    return (_Entry * len(entries))(*[
+        _Entry(e.key, len(e.key), e.value, len(e.value), e.seqno, e.type) for e in entries])
 
 
 def _cuts(entries, block_size):
@@ -236,8 +272,7 @@ def write(entries, block_size=4096, restart_interval=16, index_interval=1, bits_
     falling. `bits_per_key` 0: no filter; `hash_ratio` (3, 4): three buckets of a block's hash index for
     four entries. Raises Error with BAD_ARGUMENT where the entries can't be written so."""
     entries = list(entries)
-    given = (_Entry * len(entries))(*[
-        _Entry(e.key, len(e.key), e.value, len(e.value), e.seqno, e.type) for e in entries])
+    given = _given(entries)
     cuts = _cuts(entries, block_size)
     given_cuts = (ctypes.c_size_t * len(cuts))(*cuts)
     config = _Config(*hash_ratio, bits_per_key, restart_interval, index_interval)
@@ -254,3 +289,71 @@ def write(entries, block_size=4096, restart_interval=16, index_interval=1, bits_
     footer = ctypes.create_string_buffer(_FOOTER)
     _demand(_LIB.sst_footer_write(ctypes.byref(handles), footer, _FOOTER, ctypes.byref(need)))
     return run + footer.raw
+
+
+class Writer:
+    """Writes a table file entry by entry into an open binary file: the bytes that `write` makes of the same
+    entries, a frame at a time as they are finished. Kept are the entries of one block, and of the blocks before
+    it a handle for each and, where there is a filter, a hash of 8 bytes for each entry.
+
+        with open("users.sst", "wb") as file:
+            writer = sst.Writer(file)
+            for key in sorted(users):
+                writer.add(sst.Entry(key, 1, users[key]))
+            writer.finish()
+    """
+
+    def __init__(self, file, block_size=4096, restart_interval=16, index_interval=1, bits_per_key=10,
+                 hash_ratio=(0, 1)):
+        self._file, self._block_size = file, block_size
+        self._config = _Config(*hash_ratio, bits_per_key, restart_interval, index_interval)
+        self._entries, self._held, self._last = [], 0, None
+        self._ends, self._hashes, self._length = [], bytearray(), 0
+        self._out = bytearray(block_size + 4096)
+
+    def add(self, entry):
+        """Adds an entry. Raises Error with OUT_OF_ORDER where it sorts before the one added last, and with
+        BAD_ARGUMENT where it is no entry; the table goes on without it. After another error the table can't be
+        finished."""
+        if not 1 <= len(entry.key) <= 65535 or len(entry.value) >= 2**32 or not 0 <= entry.seqno <= MAX_SEQNO:
+            raise Error(_BAD_ARGUMENT)
+        order = (entry.key, -entry.seqno)
+        if self._last is not None and order < self._last:
+            raise Error(_OUT_OF_ORDER)
+        if self._entries and self._held >= self._block_size:
+            self._close_block()
+        self._entries.append(Entry(bytes(entry.key), entry.seqno, bytes(entry.value), ValueType(entry.type)))
+        self._held += len(entry.key) + len(entry.value)
+        self._last = order
+
+    def finish(self):
+        """Ends the table: writes the last block, the index, the filter and the footer. Raises Error with
+        BAD_ARGUMENT where no entry was added."""
+        self._close_block()
+        handles, run = (_KeyedHandle * len(self._ends))(*self._ends), _Handles()
+        hashes = (ctypes.c_char * len(self._hashes)).from_buffer(self._hashes)
+        self._write(lambda out, cap, length: _LIB.sst_run_end_write(
+            handles, len(handles), hashes, len(self._hashes) // 8, ctypes.byref(self._config), out, cap, length,
+            ctypes.byref(run)))
+        self._write(lambda out, cap, length: _LIB.sst_footer_write(ctypes.byref(run), out, cap, length))
+
+    def _write(self, call):
+        """Writes what a call makes that says how much capacity it needs, and returns its length."""
+        need = ctypes.c_size_t()
+        while (status := call((ctypes.c_char * len(self._out)).from_buffer(self._out), len(self._out),
+                              ctypes.byref(need))) == _NO_ROOM:
+            self._out = bytearray(need.value)
+        _demand(status)
+        self._file.write(memoryview(self._out)[:need.value])
+        self._length += need.value
+        return need.value
+
+    def _close_block(self):
+        given, offset = _given(self._entries), self._length
+        hashes = (ctypes.c_uint64 * (len(given) if self._config.bits_per_key else 0))()
+        size = self._write(lambda out, cap, length: _LIB.sst_run_block_write(
+            given, len(given), ctypes.byref(self._config), out, cap, length, hashes, len(hashes)))
+        last = self._entries[-1]
+        self._ends.append((last.key, len(last.key), last.seqno, offset, size))
+        self._hashes += bytes(hashes)
+        self._entries, self._held = [], 0

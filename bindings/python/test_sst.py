@@ -1,4 +1,5 @@
 """Tests of sst.py: SST_LIBRARY=PREFIX/lib/libsst.so python3 -m unittest bindings/python/test_sst.py"""
+import io
 import os
 import random
 import sys
@@ -29,6 +30,7 @@ class Tables(unittest.TestCase):
         table = sst.Table(sst.write(FEW, block_size=1))
         self.assertEqual(table.summary, (3, 3, 1, 300))
         self.assertEqual(list(table), FEW)
+        self.assertEqual([table.block(index) for index in range(3)], [[entry] for entry in FEW])
         self.assertEqual(table.get(b"ab"), FEW[0])
         self.assertEqual(table.get(b"ab", below=2), FEW[1])
         self.assertIsNone(table.get(b"ab", below=1))
@@ -45,6 +47,9 @@ class Tables(unittest.TestCase):
             self.assertEqual(list(table), entries)
             self.assertEqual(list(reversed(table)), entries[::-1])
             self.assertEqual(len(table), len(entries))
+            blocks = [table.block(index) for index in range(table.summary.blocks)]
+            self.assertTrue(all(blocks))
+            self.assertEqual([entry for block in blocks for entry in block], entries)
             for index in range(0, len(entries), 7):
                 low, high = entries[index].key, entries[(index * 5 + 3) % len(entries)].key
                 within = [e for e in entries if low <= e.key < high]
@@ -56,6 +61,48 @@ class Tables(unittest.TestCase):
                 newest = next((e for e in entries if e.key == low and e.seqno < 500), None)
                 self.assertEqual(table.get(low, below=500), newest)
 
+    def test_pieces(self):
+        entries = [Entry(b"user/%08d" % (i // 2), 3 if i % 2 else 9, bytes([97 + i % 26]) * (i % 50))
+                   for i in range(100_000)]
+        for form in ({}, {"bits_per_key": 0, "hash_ratio": (3, 4), "block_size": 1000, "index_interval": 4}):
+            file = io.BytesIO()
+            writer = sst.Writer(file, **form)
+            for entry in entries[:-1]:
+                writer.add(entry)
+            self.assertGreater(file.tell(), 1_000_000)
+            writer.add(entries[-1])
+            writer.finish()
+            self.assertEqual(file.getvalue(), sst.write(entries, **form))
+            table = sst.Table(file.getvalue())
+            self.assertEqual(len(table), len(entries))
+            self.assertEqual(list(table), entries)
+
+    def test_pieces_of_random(self):
+        for seed in range(20):
+            entries, file = random_entries(seed, 1 + seed * 10), io.BytesIO()
+            form = {"block_size": [1, 100, 4096][seed % 3], "bits_per_key": seed % 2 * 10}
+            writer = sst.Writer(file, **form)
+            for entry in entries:
+                writer.add(entry)
+            writer.finish()
+            self.assertEqual(file.getvalue(), sst.write(entries, **form))
+
+    def test_pieces_refused(self):
+        writer, file = sst.Writer(io.BytesIO()), io.BytesIO()
+        with self.assertRaises(sst.Error) as met:
+            writer.finish()
+        self.assertEqual(str(met.exception), "SST_BAD_ARGUMENT")
+        writer = sst.Writer(file, block_size=1)
+        writer.add(Entry(b"b", 5, b"x" * 10_000))
+        for entry, name in ((Entry(b"", 1), "SST_BAD_ARGUMENT"), (Entry(b"a", 9), "SST_OUT_OF_ORDER"),
+                            (Entry(b"b", 6), "SST_OUT_OF_ORDER")):
+            with self.assertRaises(sst.Error) as met:
+                writer.add(entry)
+            self.assertEqual(str(met.exception), name)
+        writer.add(Entry(b"b", 5))
+        writer.finish()
+        self.assertEqual(list(sst.Table(file.getvalue())), [Entry(b"b", 5, b"x" * 10_000), Entry(b"b", 5)])
+
     def test_refused(self):
         whole = sst.write(FEW)
         for data, name in ((b"", "SST_TRUNCATED"), (whole[:20], "SST_TRUNCATED"),
@@ -64,12 +111,20 @@ class Tables(unittest.TestCase):
             with self.assertRaises(sst.Error) as met:
                 sst.Table(data)
             self.assertEqual(str(met.exception), name)
+        whole, ends = sst.write(FEW, block_size=1), set()
+        for at in range(len(whole) - 24):
+            with self.assertRaises(sst.Error) as met:
+                sst.Table(whole[:at] + bytes([whole[at] ^ 1]) + whole[at + 1:])
+            end = met.exception.end
+            self.assertTrue(end.offset <= at < end.offset + end.size, (at, end))
+            ends.add((end.part, end.block))
+        self.assertEqual(ends, {(0, 0), (0, 1), (0, 2), (1, 0), (2, 0)})
         for entries in ([], FEW[::-1], [Entry(b"", 1)]):
             with self.assertRaises(sst.Error) as met:
                 sst.write(entries)
             self.assertEqual(str(met.exception), "SST_BAD_ARGUMENT")
         with self.assertRaises(IndexError):
-            sst.Table(whole).block(1)
+            sst.Table(whole).block(3)
 
     def test_file(self):
         with tempfile.TemporaryDirectory() as room:

@@ -21,8 +21,9 @@ extern "C" {
 #endif
 
 /* The version of the calls that this header declares, which rises where a call or a struct changes its
-   meaning; and that of the library that is linked. */
-#define SST_VERSION 2 /* 1 hashed by a polynomial */
+   meaning or is removed; and that of the library that is linked. */
+#define SST_VERSION 3 /* 1 hashed by a polynomial; 2 listed runs by block indexes, and blocks whole, too, and
+                         wrote runs at once only */
 uint32_t sst_version(void);
 
 /* What a call returns. 1 to 15 are the library's errors E1 to E15. */
@@ -116,12 +117,6 @@ uint32_t sst_data_block_check(const uint8_t *payload, size_t len, size_t *count)
 uint32_t sst_data_block_find(const uint8_t *payload, size_t len, const uint8_t *key, size_t key_len,
                              uint64_t below_seqno, struct sst_place *place);
 
-/* Writes where all entries of a data block are, in its order, tombstones too: the first *count places of
-   the array. SST_OK: *count is the number of entries, and the places after theirs are left. SST_NO_ROOM:
-   cap is less than *count, the number of entries, and the places are left. Takes no memory. */
-uint32_t sst_data_block_entries(const uint8_t *payload, size_t len, struct sst_place *places, size_t cap,
-                                size_t *count);
-
 /* Encodes handles as an index block at the front of out, in restart intervals of `interval` handles. The
    codes are those of sst_data_block_encode; SST_BAD_ARGUMENT: exactly if there is no handle, an end key
    is too long, the handles are out of order, a frame ends at 2^64 or above, or interval is 0. */
@@ -206,6 +201,41 @@ uint32_t sst_run_write(const struct sst_entry *entries, size_t count, const size
                        const struct sst_run_config *config, uint8_t *out, size_t out_cap, size_t *out_len,
                        struct sst_run_handles *handles);
 
+/* A run can be written block by block too: sst_run_block_write for each block, and then sst_run_end_write. What
+   they need to know of the blocks is in arrays of the caller, which may be as long as the table has blocks and
+   keys: a handle for each block, and, if bits_per_key is not 0, a hash of 8 bytes for each entry.
+
+   Where each block was written so by one configuration, where none begins with an entry that sorts before the
+   last one of the block before (which is the caller's to see to), and where the handles and hashes are those of
+   the blocks, in their order, the frames of the blocks, and then what sst_run_end_write writes, are the run
+   that sst_run_write makes of these entries and cuts. */
+
+/* Writes entries as the next block of a run at the front of out: the frame that sst_run_write writes of a block
+   of these entries. Its handle has the key and the sequence number of the last entry, the offset in the run,
+   which is the end of the frame before, and 0 for the first, and the size *out_len. If bits_per_key is not 0,
+   writes the hash of the key of each entry too, in their order: the first `count` elements of hashes.
+   SST_OK: *out_len bytes of out are the frame. SST_NO_ROOM: out_cap is less than *out_len. SST_BAD_ARGUMENT:
+   exactly if the entries can't be written so: those of sst_data_block_encode, an interval of 0, or hash_cap below
+   count where bits_per_key is not 0. SST_TOO_LONG: only where the block has more than 4294967262 bytes.
+   SST_MEMORY: the block is made, and then copied to out. But for SST_OK out and hashes are left, and but for
+   SST_OK and SST_NO_ROOM *out_len. */
+uint32_t sst_run_block_write(const struct sst_entry *entries, size_t count, const struct sst_run_config *config,
+                             uint8_t *out, size_t out_cap, size_t *out_len, uint64_t *hashes, size_t hash_cap);
+
+/* Ends a run after the frames of its blocks: writes the frames of their index and of the filter at the front of
+   out. handles has a handle for each block, hashes the hashes of the keys of all entries; both in the order of
+   the blocks. If bits_per_key is 0, no filter is written, and no hash is examined.
+   SST_OK: *out_len bytes of out are these frames, and *run_handles has where they are in the run.
+   SST_NO_ROOM: out_cap is less than *out_len. SST_BAD_ARGUMENT: exactly if no run can end so: there is no handle,
+   an end key is too long, the handles are out of order, their frames do not follow each other from offset 0
+   without a gap, one ends at 2^64 or above, an interval or den is 0, or there is no hash where bits_per_key is
+   not 0. SST_TOO_LONG: only where the index has more than 4294967262 bytes, the filter more than 34359737920
+   bits, or the run 2^64 bytes or more. SST_MEMORY: the frames are made, and then copied to out. But for SST_OK
+   out and *run_handles are left, and but for SST_OK and SST_NO_ROOM *out_len. */
+uint32_t sst_run_end_write(const struct sst_keyed_handle *handles, size_t handle_count, const uint64_t *hashes,
+                           size_t hash_count, const struct sst_run_config *config, uint8_t *out, size_t out_cap,
+                           size_t *out_len, struct sst_run_handles *run_handles);
+
 /* Checks any bytes and handles. SST_OK: exactly if they are a run: its frames have their checksums and
    follow each other, its blocks, index and filter are encodings, all entries are in order, each handle
    of the index has the last entry of its block, and the filter hides no key. Else the first error of
@@ -214,32 +244,34 @@ uint32_t sst_run_write(const struct sst_entry *entries, size_t count, const size
 uint32_t sst_run_check(const uint8_t *run, size_t len, const struct sst_run_handles *handles,
                        struct sst_summary *summary);
 
+/* Where a check of a run ended: the frame that it read last, by its handle. */
+struct sst_check_end {
+    uint8_t part; /* 0 a data block, 1 the index, 2 the filter */
+    size_t block; /* the index of the data block, else 0 */
+    uint64_t offset;
+    uint32_t size;
+};
+
+/* Checks any bytes and handles as sst_run_check does, with the same codes and the same *summary, and says where
+   the check ended. The frames are read in this order: that of the filter, if there is one, that of the index,
+   those of the blocks in the order of their handles, up to the one that is refused. Where the bytes are refused, *end
+   is the frame that was read last: it is the one that is refused, but for a block whose handle has another
+   offset than the end of the frame before, 0 for the first. That is SST_BAD_HANDLE too, and *end is then the
+   frame before, or the index. *end is left with SST_OK and with SST_MEMORY. */
+uint32_t sst_run_check_at(const uint8_t *run, size_t len, const struct sst_run_handles *handles,
+                          struct sst_summary *summary, struct sst_check_end *end);
+
 /* Finds the first entry of a key below a sequence number in a run that sst_run_check accepted or
    sst_run_write wrote, a tombstone too. SST_OK: *place is where it is in the run. SST_NOT_FOUND: there is
    none, and *place is left. Takes no memory, and copies nothing. */
 uint32_t sst_run_get(const uint8_t *run, size_t len, const struct sst_run_handles *handles,
                      const uint8_t *key, size_t key_len, uint64_t below_seqno, struct sst_place *place);
 
-/* A run as for sst_run_get can be listed block by block, from either end or from where sst_run_seek leads.
-   The number of its blocks. Takes no memory. */
-size_t sst_run_block_count(const uint8_t *run, size_t len, const struct sst_run_handles *handles);
-
-/* The index of the block where the entries of this key and of those above begin: how many blocks have a
-   last key below it, so the number of blocks where all keys are below. Takes no memory. */
-size_t sst_run_seek(const uint8_t *run, size_t len, const struct sst_run_handles *handles,
-                    const uint8_t *key, size_t key_len);
-
-/* Writes where all entries of the block at an index are in the run, in its order, tombstones too: the first
-   *count places of the array. SST_OK: *count is the number of entries, and the places after theirs are left.
-   SST_NO_ROOM: cap is less than *count, the number of entries, and the places are left. SST_NOT_FOUND: the
-   run has no such block, and all is left. Takes no memory. */
-uint32_t sst_run_block_entries(const uint8_t *run, size_t len, const struct sst_run_handles *handles,
-                               size_t block, struct sst_place *places, size_t cap, size_t *count);
-
 /* What a scan of a run has left: the entries from a first place on up to, not including, an end. A place is
    the index of a block, and the index of an entry in it, or the number of its entries for the block's end.
    All entries of a run of n blocks: from 0, 0 up to n - 1 and the number of entries of that block, which
-   is what sst_run_range says without bounds. */
+   is what sst_run_range says without bounds. Those of block b alone: from b, 0 up to b + 1, 0, or of the last
+   block up to the end of the window of all. */
 struct sst_window {
     size_t first_block, first_index;
     size_t end_block, end_index;
@@ -268,7 +300,8 @@ uint32_t sst_run_scan(const uint8_t *run, size_t len, const struct sst_run_handl
                       struct sst_place *places, size_t cap, size_t *count);
 
 /* The same of a data block, as of a run that has this one block: both blocks of the window are 0, and the
-   offsets are those in the block. The bytes are as for sst_data_block_find. */
+   offsets are those in the block. All entries: from 0, 0 up to 0 and the number that sst_data_block_check
+   counts. The bytes are as for sst_data_block_find. */
 uint32_t sst_data_block_scan(const uint8_t *payload, size_t len, struct sst_window *window, uint8_t has_below,
                              uint64_t below_seqno, uint8_t reverse, struct sst_place *places, size_t cap,
                              size_t *count);

@@ -33,6 +33,16 @@ static void check(const char *what, const uint8_t *run, size_t len, const struct
     printf("check %s: %s, %zu blocks, %llu entries, numbers %llu to %llu\n", what, sst_error_name(status),
            found.blocks, (unsigned long long)found.entries, (unsigned long long)found.least_seqno,
            (unsigned long long)found.greatest_seqno);
+    struct sst_summary again = {0, 0, 0, 0};
+    struct sst_check_end end = {9, 9, 9, 9};
+    static const char *const parts[] = {"block", "the index", "the filter"};
+    if (sst_run_check_at(run, len, handles, &again, &end) != status || memcmp(&again, &found, sizeof found) != 0)
+        printf("checked twice, and not the same\n");
+    if (status != SST_OK)
+        printf("  at %s %zu, the frame at %llu of %u bytes\n", parts[end.part], end.block,
+               (unsigned long long)end.offset, end.size);
+    else if (end.part != 9 || end.block != 9 || end.offset != 9 || end.size != 9)
+        printf("  a place was noted\n");
 }
 
 static void get(const uint8_t *run, size_t len, const struct sst_run_handles *handles, const char *key,
@@ -67,32 +77,72 @@ static void get_all(const uint8_t *run, size_t len, const struct sst_run_handles
     printf("of %d entries, found where they are: %d\n", COUNT, right);
 }
 
-/* Scans the run, block by block from its front, and block by block from its back. */
+/* The window of all entries of the run. */
+static struct sst_window whole(const uint8_t *run, size_t len, const struct sst_run_handles *handles) {
+    struct sst_window window;
+    sst_run_range(run, len, handles, 0, run, 0, 0, run, 0, &window);
+    return window;
+}
+
+/* The window of the entries of the block at an index. */
+static struct sst_window block_at(const uint8_t *run, size_t len, const struct sst_run_handles *handles, size_t block) {
+    struct sst_window window = whole(run, len, handles);
+    window.first_block = block;
+    if (block < window.end_block) window.end_block = block + 1, window.end_index = 0;
+    return window;
+}
+
+/* Scans the run, block by block from its front, and at once from its back. */
 static void scan(const uint8_t *run, size_t len, const struct sst_run_handles *handles) {
     static struct sst_place places[COUNT];
-    size_t blocks = sst_run_block_count(run, len, handles), count = 7;
+    struct sst_window all = whole(run, len, handles), window;
+    size_t blocks = all.end_block + 1, count = 7;
     int next = 0, right = 0;
     printf("%zu blocks, of", blocks);
     for (size_t block = 0; block < blocks; block++) {
-        if (sst_run_block_entries(run, len, handles, block, places, COUNT, &count) != SST_OK) return;
+        window = block_at(run, len, handles, block);
+        if (sst_run_scan(run, len, handles, &window, 0, 0, 0, places, COUNT, &count) != SST_OK) return;
         printf(" %zu", count);
         for (size_t i = 0; i < count; i++) right += is_at(run, &places[i], next++);
     }
-    for (size_t block = blocks; block-- > 0;) {
-        if (sst_run_block_entries(run, len, handles, block, places, COUNT, &count) != SST_OK) return;
-        for (size_t i = count; i-- > 0;) right += is_at(run, &places[i], --next);
-    }
+    if (sst_run_scan(run, len, handles, &all, 0, 0, 1, places, COUNT, &count) != SST_OK) return;
+    for (size_t i = 0; i < count; i++) right += is_at(run, &places[i], --next);
     printf(" entries; from both ends, where they are: %d\n", right);
-    uint32_t status = sst_run_block_entries(run, len, handles, 2, places, 38, &count);
-    printf("room for 38 of block 2: %s, %zu; ", sst_error_name(status), count);
-    status = sst_run_block_entries(run, len, handles, blocks, places, COUNT, &count);
-    printf("block %zu: %s, %zu\n", blocks, sst_error_name(status), count);
-    printf("begin in block:");
+}
+
+/* Lists a block in two batches, and a block that the run does not have. */
+static void scan_part(const uint8_t *run, size_t len, const struct sst_run_handles *handles) {
+    static struct sst_place places[38];
+    struct sst_window window = block_at(run, len, handles, 2);
+    size_t count = 7;
+    uint32_t status = sst_run_scan(run, len, handles, &window, 0, 0, 0, places, 38, &count);
+    printf("38 places for block 2: %s, %zu, ", sst_error_name(status), count);
+    status = sst_run_scan(run, len, handles, &window, 0, 0, 0, places, 38, &count);
+    printf("then %s, %zu; ", sst_error_name(status), count);
+    window = block_at(run, len, handles, 4);
+    status = sst_run_scan(run, len, handles, &window, 0, 0, 0, places, 38, &count);
+    printf("block 4: %s, %zu\n", sst_error_name(status), count);
+}
+
+static void print_first(const uint8_t *run, size_t len, const struct sst_run_handles *handles, const char *name,
+                        const uint8_t *key, size_t key_len) {
+    struct sst_window window;
+    sst_run_range(run, len, handles, 1, key, key_len, 0, key, 0, &window);
+    printf(" %s (%zu, %zu)", name, window.first_block, window.first_index);
+}
+
+/* Prints where the entries from a key on begin: block, and index in it. */
+static void seek(const uint8_t *run, size_t len, const struct sst_run_handles *handles) {
     const int sought[] = {0, 19, 20, 21, 22, 59, 60, 77};
-    for (size_t i = 0; i < sizeof sought / sizeof *sought; i++)
-        printf(" %d in %zu,", sought[i], sst_run_seek(run, len, handles, keys[sought[i]], 16));
-    printf(" a in %zu, u in %zu\n", sst_run_seek(run, len, handles, (const uint8_t *)"a", 1),
-           sst_run_seek(run, len, handles, (const uint8_t *)"u", 1));
+    char name[12];
+    printf("begin:");
+    for (size_t i = 0; i < sizeof sought / sizeof *sought; i++) {
+        snprintf(name, sizeof name, "%d", sought[i]);
+        print_first(run, len, handles, name, keys[sought[i]], 16);
+    }
+    print_first(run, len, handles, "a", (const uint8_t *)"a", 1);
+    print_first(run, len, handles, "u", (const uint8_t *)"u", 1);
+    printf("\n");
 }
 
 /* Writes the footer of a run, and reads it again: whole, and a byte less. */
@@ -143,8 +193,10 @@ int main(void) {
     get(run, len, &handles, "tbl2", UINT64_MAX);
     get_all(run, len, &handles);
     scan(run, len, &handles);
-    /* the magic of a block, a byte of a block, of the index, of the filter */
-    const size_t places[] = {0, 50, (size_t)handles.index_offset + 40, len - 1};
+    scan_part(run, len, &handles);
+    seek(run, len, &handles);
+    /* the magic of a block, a byte of two blocks, of the index, of the filter */
+    const size_t places[] = {0, 50, 2000, (size_t)handles.index_offset + 40, len - 1};
     for (size_t i = 0; i < sizeof places / sizeof *places; i++) {
         char what[48];
         snprintf(what, sizeof what, "byte %zu turned", places[i]);

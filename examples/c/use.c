@@ -33,10 +33,12 @@ static void find(const uint8_t *block, size_t len, const char *key, uint64_t bel
     printf("\n");
 }
 
-/* Lists the entries of a block, and compares them with those that were given. */
+/* Lists the entries of a block from the front into places, and compares them with those that were given. */
 static void list(const uint8_t *block, size_t len, struct sst_place *places, size_t cap) {
+    struct sst_window left = {0, 0, 0, 0};
     size_t count = 0, same = 0;
-    uint32_t status = sst_data_block_entries(block, len, places, cap, &count);
+    sst_data_block_check(block, len, &left.end_index);
+    uint32_t status = sst_data_block_scan(block, len, &left, 0, 0, 0, places, cap, &count);
     for (size_t i = 0; status == SST_OK && i < count; i++) {
         const struct sst_place *at = &places[i];
         const struct sst_entry *given = &entries[i];
@@ -47,19 +49,21 @@ static void list(const uint8_t *block, size_t len, struct sst_place *places, siz
                 memcmp(block + at->key_offset, given->key + at->prefix_len, at->key_len) == 0 &&
                 at->value_len == value_len && memcmp(block + at->value_offset, given->value, value_len) == 0;
     }
-    printf("list into %zu places: %s, %zu, %zu as given\n", cap, sst_error_name(status), count, same);
+    printf("list into %zu places: %s, %zu, %zu as given, left are %zu to %zu\n", cap, sst_error_name(status),
+           count, same, left.first_index, left.end_index);
 }
 
-/* Lists into too few places, which are left, into just enough, and into one more, which is left. */
+/* Lists into no places, too few by one, just enough, and one more: the places after the listed ones are left. */
 static void use_entries(const uint8_t *block, size_t len) {
     static struct sst_place places[COUNT + 1];
-    places[0].seqno = places[COUNT].seqno = 7;
+    for (size_t i = 0; i <= COUNT; i++) places[i].seqno = 7;
     list(block, len, places, 0);
-    list(block, len, places, COUNT - 1);
     printf("first place: %llu\n", (unsigned long long)places[0].seqno);
+    list(block, len, places, COUNT - 1);
+    printf("place %d: %llu\n", COUNT - 1, (unsigned long long)places[COUNT - 1].seqno);
     list(block, len, places, COUNT);
     list(block, len, places, COUNT + 1);
-    printf("last place: %llu\n", (unsigned long long)places[COUNT].seqno);
+    printf("place %d: %llu\n", COUNT, (unsigned long long)places[COUNT].seqno);
 }
 
 static void check(const char *what, const uint8_t *block, size_t len) {

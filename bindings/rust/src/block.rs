@@ -48,13 +48,16 @@ impl<'a> DataBlock<'a> {
 
     /// Returns an iterator over the entries from both ends, which keeps a place for each.
     pub fn iter(&self) -> Iter<'a> {
-        let mut places = vec![ffi::Place::default(); self.len];
-        let mut count = 0;
+        let mut places = Vec::<ffi::Place>::with_capacity(self.len);
+        let (mut window, mut count) = (ffi::Window { end_index: self.len, ..Default::default() }, 0);
         unsafe {
-            ffi::sst_data_block_entries(
-                self.payload.as_ptr(), self.payload.len(), places.as_mut_ptr(), places.len(), &mut count,
-            )
-        };
+            ffi::sst_data_block_scan(
+                self.payload.as_ptr(), self.payload.len(), &mut window, 0, 0, 0, places.as_mut_ptr(), self.len,
+                &mut count,
+            );
+            // The call wrote a place for each entry.
+            places.set_len(count);
+        }
         Iter::over(self.payload, places)
     }
 }

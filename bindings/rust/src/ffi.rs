@@ -1,6 +1,7 @@
 //! The calls of sst.h.
 use std::os::raw::c_uint;
 
+pub const MEMORY: u32 = 15;
 pub const NOT_FOUND: u32 = 16;
 pub const NO_ROOM: u32 = 18;
 
@@ -85,6 +86,15 @@ pub struct Summary {
     pub greatest_seqno: u64,
 }
 
+#[repr(C)]
+#[derive(Clone, Copy, Default)]
+pub struct CheckEnd {
+    pub part: u8,
+    pub block: usize,
+    pub offset: u64,
+    pub size: u32,
+}
+
 extern "C" {
     pub fn sst_data_block_encode(
         entries: *const Entry, count: usize, interval: u8, num: u32, den: u32, out: *mut u8, cap: usize,
@@ -94,8 +104,9 @@ extern "C" {
     pub fn sst_data_block_find(
         payload: *const u8, len: usize, key: *const u8, key_len: usize, below: u64, place: *mut Place,
     ) -> c_uint;
-    pub fn sst_data_block_entries(
-        payload: *const u8, len: usize, places: *mut Place, cap: usize, count: *mut usize,
+    pub fn sst_data_block_scan(
+        payload: *const u8, len: usize, window: *mut Window, has_below: u8, below: u64, reverse: u8,
+        places: *mut Place, cap: usize, count: *mut usize,
     ) -> c_uint;
     pub fn sst_index_block_encode(
         handles: *const KeyedHandle, count: usize, interval: u8, out: *mut u8, cap: usize, len: *mut usize,
@@ -118,8 +129,19 @@ extern "C" {
         entries: *const Entry, count: usize, cuts: *const usize, cut_count: usize, config: *const RunConfig,
         out: *mut u8, cap: usize, len: *mut usize, handles: *mut RunHandles,
     ) -> c_uint;
+    pub fn sst_run_block_write(
+        entries: *const Entry, count: usize, config: *const RunConfig, out: *mut u8, cap: usize, len: *mut usize,
+        hashes: *mut u64, hash_cap: usize,
+    ) -> c_uint;
+    pub fn sst_run_end_write(
+        handles: *const KeyedHandle, handle_count: usize, hashes: *const u64, hash_count: usize,
+        config: *const RunConfig, out: *mut u8, cap: usize, len: *mut usize, run_handles: *mut RunHandles,
+    ) -> c_uint;
     pub fn sst_run_check(
         run: *const u8, len: usize, handles: *const RunHandles, summary: *mut Summary,
+    ) -> c_uint;
+    pub fn sst_run_check_at(
+        run: *const u8, len: usize, handles: *const RunHandles, summary: *mut Summary, end: *mut CheckEnd,
     ) -> c_uint;
     pub fn sst_run_get(
         run: *const u8, len: usize, handles: *const RunHandles, key: *const u8, key_len: usize, below: u64,

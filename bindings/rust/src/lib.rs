@@ -26,7 +26,7 @@ mod table;
 
 pub use block::{Block, BlockHandle, BlockType, DataBlock, IndexBlock, Iter, KeyedBlockHandle};
 pub use block::{StandardBloomFilterReader, build_filter};
-pub use table::{Config, Range, Summary, Table, Writer, write_table};
+pub use table::{CheckEnd, Config, Range, Summary, Table, Writer, write_table};
 
 use std::borrow::Cow;
 use std::cmp::Ordering;
@@ -81,6 +81,18 @@ impl fmt::Display for Error {
 }
 
 impl std::error::Error for Error {}
+
+/// The library's error as one of a writer: its source is this error.
+impl From<Error> for std::io::Error {
+    fn from(error: Error) -> std::io::Error {
+        let kind = match error {
+            Error::Memory => std::io::ErrorKind::OutOfMemory,
+            Error::BadArgument | Error::OutOfOrder => std::io::ErrorKind::InvalidInput,
+            _ => std::io::ErrorKind::InvalidData,
+        };
+        std::io::Error::new(kind, error)
+    }
+}
 
 fn demand(status: u32) -> Result<()> {
     if status == 0 { Ok(()) } else { Err(Error::of(status)) }

@@ -1,6 +1,6 @@
 //! Table files.
-use crate::{Block, BlockHandle, BlockType, DataBlock, IndexBlock, KeyedBlockHandle, build_filter};
-use crate::{Entry, Error, Result, SeqNo, ValueType, demand, ffi, given};
+use crate::{BlockHandle, BlockType, Entry, Error, Result, SeqNo, ValueType, demand, ffi, given};
+use std::io::{self, Write};
 use std::ops::{Bound, RangeBounds};
 
 const FOOTER_LEN: usize = 24;
@@ -26,6 +26,19 @@ impl Default for Config {
     }
 }
 
+impl Config {
+    fn given(&self) -> ffi::RunConfig {
+        let (num, den) = self.hash_ratio;
+        ffi::RunConfig {
+            num,
+            den,
+            bits_per_key: self.bits_per_key,
+            restart_interval: self.restart_interval,
+            index_interval: self.index_interval,
+        }
+    }
+}
+
 /// Writes entries as a table file: at least one, by key rising and then by sequence number falling.
 pub fn write_table(entries: &[Entry<'_>], config: &Config) -> Result<Vec<u8>> {
     let (rows, _keys) = given(entries);
@@ -38,14 +51,7 @@ pub fn write_table(entries: &[Entry<'_>], config: &Config) -> Result<Vec<u8>> {
         held += row.key_len + row.value_len;
         room += row.key_len + row.value_len + 64;
     }
-    let (num, den) = config.hash_ratio;
-    let config = ffi::RunConfig {
-        num,
-        den,
-        bits_per_key: config.bits_per_key,
-        restart_interval: config.restart_interval,
-        index_interval: config.index_interval,
-    };
+    let config = config.given();
     let mut handles = ffi::RunHandles::default();
     let mut file = ffi::filled(room, |out, cap, len| unsafe {
         ffi::sst_run_write(
@@ -57,34 +63,33 @@ pub fn write_table(entries: &[Entry<'_>], config: &Config) -> Result<Vec<u8>> {
     Ok(file)
 }
 
-/// Writes a table piece by piece, the bytes that [`write_table`] writes of the same entries. What is
-/// finished can be taken at any time. Kept are the entries of one block, a handle for each block, and,
-/// where there is a filter, all keys.
+/// Writes a table file entry by entry: the bytes that [`write_table`] writes of the same entries, a frame at a
+/// time as they are finished. Kept are the entries of one block, and of the blocks before it a handle for each
+/// and, where there is a filter, a hash of 8 bytes for each entry.
 ///
 /// ```
 /// # use sst::{Config, Entry, Table, ValueType, Writer};
 /// # fn main() -> Result<(), Box<dyn std::error::Error>> {
-/// let mut file = Vec::new(); // or any std::io::Write
-/// let mut writer = Writer::new(Config::default());
+/// let mut writer = Writer::new(Vec::new(), Config::default()); // or any std::io::Write
 /// for n in 0..1000u64 {
 ///     writer.add(&Entry::new(&n.to_be_bytes(), 1, ValueType::Value, b"value"))?;
-///     std::io::Write::write_all(&mut file, &writer.take())?;
 /// }
-/// file.extend(writer.finish()?);
+/// let file = writer.finish()?;
 /// assert_eq!(Table::check(&file)?.verify()?.entries, 1000);
 /// # Ok(())
 /// # }
 /// ```
-pub struct Writer {
+pub struct Writer<W: Write> {
+    sink: W,
     config: Config,
     // The entries of the open block, and the bytes of their keys and values.
     rows: Vec<Row>,
     bytes: Vec<u8>,
     handles: Vec<(Vec<u8>, SeqNo, BlockHandle)>,
-    keys: Vec<u8>,
-    key_lens: Vec<usize>,
+    hashes: Vec<u64>,
+    // What a call writes into.
     out: Vec<u8>,
-    // The number of bytes that were finished.
+    // The number of bytes that were written.
     len: u64,
 }
 
@@ -95,23 +100,29 @@ struct Row {
     value_type: ValueType,
 }
 
-impl Writer {
+impl<W: Write> Writer<W> {
     /// Begins a table.
-    pub fn new(config: Config) -> Writer {
-        let (rows, bytes, handles, keys) = (Vec::new(), Vec::new(), Vec::new(), Vec::new());
-        Writer { config, rows, bytes, handles, keys, key_lens: Vec::new(), out: Vec::new(), len: 0 }
+    pub fn new(sink: W, config: Config) -> Writer<W> {
+        let (rows, bytes, handles, hashes) = (Vec::new(), Vec::new(), Vec::new(), Vec::new());
+        let out = vec![0; config.block_size.saturating_add(4096).min(1 << 20)];
+        Writer { sink, config, rows, bytes, handles, hashes, out, len: 0 }
     }
 
-    /// Adds an entry, which must not sort before the one added last: that is `OutOfOrder`, and an entry
-    /// without a key `BadArgument`. After another error the table cannot be finished.
-    pub fn add(&mut self, entry: &Entry<'_>) -> Result<()> {
+    /// Adds an entry, and writes the block before it where that has its size.
+    ///
+    /// # Errors
+    ///
+    /// An error that is [`Error::OutOfOrder`] where the entry sorts before the one added last, and
+    /// [`Error::BadArgument`] where its key is empty or has more than 65535 bytes; the table goes on without
+    /// it. After another error of the library, or one of the writer, the table cannot be finished.
+    pub fn add(&mut self, entry: &Entry<'_>) -> io::Result<()> {
         let key = entry.key();
         if key.is_empty() || key.len() > 65_535 {
-            return Err(Error::BadArgument);
+            return Err(Error::BadArgument.into());
         }
         if let Some((last, seqno)) = self.last() {
             if entry.cmp_key(last).then(seqno.cmp(&entry.seqno)).is_lt() {
-                return Err(Error::OutOfOrder);
+                return Err(Error::OutOfOrder.into());
             }
         }
         if !self.rows.is_empty() && self.bytes.len() >= self.config.block_size {
@@ -121,48 +132,34 @@ impl Writer {
         self.bytes.extend_from_slice(entry.value);
         let (seqno, value_type) = (entry.seqno, entry.value_type);
         self.rows.push(Row { key_len: key.len(), value_len: entry.value.len(), seqno, value_type });
-        if self.config.bits_per_key > 0 {
-            self.keys.extend_from_slice(&key);
-            self.key_lens.push(key.len());
-        }
         Ok(())
     }
 
-    /// Takes the bytes of the table that are finished and were not taken before.
-    pub fn take(&mut self) -> Vec<u8> {
-        std::mem::take(&mut self.out)
-    }
-
-    /// Ends the table, and returns its last bytes. `BadArgument` where no entry was added.
-    pub fn finish(mut self) -> Result<Vec<u8>> {
+    /// Ends the table: writes the last block, the index, the filter and the footer. Returns the writer, which
+    /// is not flushed.
+    ///
+    /// # Errors
+    ///
+    /// [`Error::BadArgument`] where no entry was added; else an error of the library or of the writer.
+    pub fn finish(mut self) -> io::Result<W> {
         self.close_block()?;
-        let handles: Vec<_> = self
-            .handles
-            .iter()
-            .map(|(end_key, seqno, handle)| KeyedBlockHandle { end_key, seqno: *seqno, handle: *handle })
-            .collect();
-        let payload = IndexBlock::encode(&handles, self.config.index_interval)?;
-        let index = self.close(BlockType::Index, &payload)?;
-        let filter = if self.key_lens.is_empty() {
-            BlockHandle { offset: 0, size: 0 }
-        } else {
-            let mut rest = &self.keys[..];
-            let keys: Vec<_> = self.key_lens.iter().map(|len| {
-                let (key, behind) = rest.split_at(*len);
-                rest = behind;
-                key
-            }).collect();
-            let payload = build_filter(&keys, self.config.bits_per_key)?;
-            self.close(BlockType::Filter, &payload)?
-        };
-        let handles = ffi::RunHandles {
-            index_offset: index.offset,
-            filter_offset: filter.offset,
-            index_size: index.size,
-            filter_size: filter.size,
-        };
-        self.out.extend(footer(&handles)?);
-        Ok(self.out)
+        let handles = std::mem::take(&mut self.handles);
+        let given: Vec<_> = handles.iter().map(|(end_key, seqno, handle)| ffi::KeyedHandle {
+            end_key: end_key.as_ptr(),
+            end_key_len: end_key.len(),
+            seqno: *seqno,
+            offset: handle.offset,
+            size: handle.size,
+        }).collect();
+        let (hashes, config) = (std::mem::take(&mut self.hashes), self.config.given());
+        let mut run = ffi::RunHandles::default();
+        self.write(|out, cap, len| unsafe {
+            ffi::sst_run_end_write(
+                given.as_ptr(), given.len(), hashes.as_ptr(), hashes.len(), &config, out, cap, len, &mut run,
+            )
+        })?;
+        self.write(|out, cap, len| unsafe { ffi::sst_footer_write(&run, out, cap, len) })?;
+        Ok(self.sink)
     }
 
     // The key and the number of the entry added last.
@@ -176,31 +173,48 @@ impl Writer {
         }
     }
 
-    fn close_block(&mut self) -> Result<()> {
+    fn close_block(&mut self) -> io::Result<()> {
         let mut rest = &self.bytes[..];
         let entries: Vec<_> = self.rows.iter().map(|row| {
             let (key, behind) = rest.split_at(row.key_len);
             let (value, behind) = behind.split_at(row.value_len);
             rest = behind;
-            Entry::new(key, row.seqno, row.value_type, value)
+            ffi::Entry {
+                key: key.as_ptr(),
+                key_len: key.len(),
+                value: value.as_ptr(),
+                value_len: value.len(),
+                seqno: row.seqno,
+                value_type: row.value_type as u8,
+            }
         }).collect();
-        let payload = DataBlock::encode(&entries, self.config.restart_interval, self.config.hash_ratio)?;
         let (key, seqno) = self.last().map(|(key, seqno)| (key.to_vec(), seqno)).ok_or(Error::BadArgument)?;
-        let handle = self.close(BlockType::Data, &payload)?;
-        self.handles.push((key, seqno, handle));
+        let mut hashes = vec![0; if self.config.bits_per_key > 0 { entries.len() } else { 0 }];
+        let (offset, config) = (self.len, self.config.given());
+        let size = self.write(|out, cap, len| unsafe {
+            ffi::sst_run_block_write(
+                entries.as_ptr(), entries.len(), &config, out, cap, len, hashes.as_mut_ptr(), hashes.len(),
+            )
+        })?;
+        self.hashes.extend(hashes);
+        self.handles.push((key, seqno, BlockHandle { offset, size: size as u32 }));
         self.rows.clear();
         self.bytes.clear();
         Ok(())
     }
 
-    // Appends the frame of a block.
-    fn close(&mut self, block_type: BlockType, payload: &[u8]) -> Result<BlockHandle> {
-        let before = self.out.len();
-        Block { block_type, payload }.write_into(&mut self.out)?;
-        let size = u32::try_from(self.out.len() - before).map_err(|_| Error::TooLong)?;
-        let offset = self.len;
-        self.len += u64::from(size);
-        Ok(BlockHandle { offset, size })
+    // Writes what a call makes that says how much capacity it needs. Returns its length.
+    fn write(&mut self, mut call: impl FnMut(*mut u8, usize, &mut usize) -> u32) -> io::Result<usize> {
+        let mut len = 0;
+        let mut status = call(self.out.as_mut_ptr(), self.out.len(), &mut len);
+        if status == ffi::NO_ROOM {
+            self.out.resize(len, 0);
+            status = call(self.out.as_mut_ptr(), self.out.len(), &mut len);
+        }
+        demand(status)?;
+        self.sink.write_all(&self.out[..len])?;
+        self.len += len as u64;
+        Ok(len)
     }
 }
 
@@ -223,6 +237,17 @@ pub struct Summary {
     pub least_seqno: SeqNo,
     /// The greatest sequence number.
     pub greatest_seqno: SeqNo,
+}
+
+/// Where a check of a table ended: the frame that it read last, by its handle.
+#[derive(Clone, Copy, Debug, PartialEq, Eq)]
+pub struct CheckEnd {
+    /// The type of the frame.
+    pub block_type: BlockType,
+    /// The index of the data block; 0 for index and filter.
+    pub block: usize,
+    /// Where the frame is.
+    pub handle: BlockHandle,
 }
 
 /// A table file over bytes that are borrowed, such as a mapped file. Reads test nothing and copy nothing.
@@ -263,6 +288,21 @@ impl<'a> Table<'a> {
         })?;
         let ffi::Summary { blocks, entries, least_seqno, greatest_seqno } = found;
         Ok(Summary { blocks, entries, least_seqno, greatest_seqno })
+    }
+
+    /// Checks all bytes of a file again that [`Table::check`] refused, and returns where the check ended. There
+    /// is no such frame where the file is a table or too short for one, or an allocation fails.
+    pub fn refused_at(file: &[u8]) -> Option<CheckEnd> {
+        let table = Table::open(file).ok()?;
+        let (mut found, mut end) = (ffi::Summary::default(), ffi::CheckEnd::default());
+        let status = unsafe {
+            ffi::sst_run_check_at(table.run.as_ptr(), table.run.len(), &table.handles, &mut found, &mut end)
+        };
+        (status != 0 && status != ffi::MEMORY).then(|| CheckEnd {
+            block_type: [BlockType::Data, BlockType::Index, BlockType::Filter][usize::from(end.part)],
+            block: end.block,
+            handle: BlockHandle { offset: end.offset, size: end.size },
+        })
     }
 
     /// Returns the first entry of a key strictly below a sequence number, a tombstone too.

@@ -1,6 +1,8 @@
 //! Blocks and tables of random lists, beside the lists.
 use sst::{Block, BlockHandle, BlockType, Config, DataBlock, Entry, Error, IndexBlock, KeyedBlockHandle};
 use sst::{StandardBloomFilterReader, Table, ValueType, Writer, build_filter, write_table};
+use std::cell::Cell;
+use std::io::Write;
 use std::ops::Bound;
 
 /// A row of a list.
@@ -68,15 +70,60 @@ fn blocks_are_windows_over_their_lists() {
 }
 
 fn written_in_pieces(list: &[Entry<'_>], config: Config) -> Vec<u8> {
-    let (mut writer, mut file) = (Writer::new(config), vec![]);
-    for (i, entry) in list.iter().enumerate() {
+    let mut writer = Writer::new(vec![], config);
+    for entry in list {
         writer.add(entry).unwrap();
-        if i % 7 == 0 {
-            file.extend(writer.take());
-        }
     }
-    file.extend(writer.finish().unwrap());
-    file
+    writer.finish().unwrap()
+}
+
+/// The library's error in that of a writer.
+fn refused<T>(result: std::io::Result<T>) -> Option<Error> {
+    result.err()?.get_ref()?.downcast_ref::<Error>().copied()
+}
+
+/// A writer that counts the calls, and takes so many bytes.
+struct Short<'a>(&'a Cell<usize>, usize);
+
+impl Write for Short<'_> {
+    fn write(&mut self, bytes: &[u8]) -> std::io::Result<usize> {
+        self.0.set(self.0.get() + 1);
+        let taken = bytes.len().min(self.1);
+        self.1 -= taken;
+        Ok(taken)
+    }
+
+    fn flush(&mut self) -> std::io::Result<()> {
+        Ok(())
+    }
+}
+
+#[test]
+fn large_tables_are_written_in_pieces() {
+    let rows: Vec<Row> = (0..100_000u64)
+        .map(|i| {
+            let key = format!("user/{:08}", i / 2).into_bytes();
+            (key, if i % 2 == 0 { 9 } else { 3 }, ValueType::Value, vec![b'a' + (i % 26) as u8; i as usize % 50])
+        })
+        .collect();
+    let list = entries(&rows);
+    for (bits_per_key, hash_ratio) in [(10, (0, 1)), (0, (3, 4))] {
+        let config = Config { bits_per_key, hash_ratio, ..Config::default() };
+        let file = write_table(&list, &config).unwrap();
+        assert!(written_in_pieces(&list, config) == file);
+        let table = Table::check(&file).unwrap();
+        assert_eq!(table.verify().unwrap().entries, 100_000);
+        assert!(table.iter().eq(list.iter().copied()));
+    }
+    let calls = Cell::new(0);
+    let mut writer = Writer::new(Short(&calls, 1 << 20), Config::default());
+    let failed = list.iter().find_map(|entry| writer.add(entry).err());
+    assert_eq!(failed.unwrap().kind(), std::io::ErrorKind::WriteZero);
+    assert!(calls.get() > 200, "blocks are written while entries are added");
+    let long = vec![b'x'; 2_000_000];
+    let wide = [Entry::new(b"a", 1, ValueType::Value, &long), Entry::new(b"b", 1, ValueType::Value, b"")];
+    let config = Config { block_size: 1, ..Config::default() };
+    assert!(written_in_pieces(&wide, config) == write_table(&wide, &config).unwrap());
 }
 
 #[test]
@@ -141,19 +188,22 @@ fn changed_bytes_are_refused() {
         let mut changed = file.clone();
         changed[at] ^= 1;
         assert!(Table::check(&changed).is_err(), "byte {at}");
+        let BlockHandle { offset, size } = Table::refused_at(&changed).unwrap().handle;
+        assert!((offset..offset + u64::from(size)).contains(&(at as u64)), "byte {at}");
     }
     for len in 0..file.len() {
         assert!(Table::check(&file[..len]).is_err(), "{len} bytes");
     }
+    assert_eq!((Table::refused_at(&file), Table::refused_at(b"")), (None, None));
     assert_eq!(Table::check(b"").err(), Some(Error::Truncated));
     assert_eq!(write_table(&[], &Config::default()), Err(Error::BadArgument));
     assert_eq!(DataBlock::encode(&[], 1, (0, 1)), Err(Error::BadArgument));
-    assert_eq!(Writer::new(Config::default()).finish(), Err(Error::BadArgument));
-    let mut writer = Writer::new(Config { block_size: 1, ..Config::default() });
-    assert_eq!(writer.add(&Entry::new(b"", 1, ValueType::Value, b"")), Err(Error::BadArgument));
+    assert_eq!(refused(Writer::new(vec![], Config::default()).finish()), Some(Error::BadArgument));
+    let mut writer = Writer::new(vec![], Config { block_size: 1, ..Config::default() });
+    assert_eq!(refused(writer.add(&Entry::new(b"", 1, ValueType::Value, b""))), Some(Error::BadArgument));
     writer.add(&Entry::new(b"b", 5, ValueType::Value, b"")).unwrap();
-    assert_eq!(writer.add(&Entry::new(b"a", 9, ValueType::Value, b"")), Err(Error::OutOfOrder));
-    assert_eq!(writer.add(&Entry::new(b"b", 6, ValueType::Value, b"")), Err(Error::OutOfOrder));
+    assert_eq!(refused(writer.add(&Entry::new(b"a", 9, ValueType::Value, b""))), Some(Error::OutOfOrder));
+    assert_eq!(refused(writer.add(&Entry::new(b"b", 6, ValueType::Value, b""))), Some(Error::OutOfOrder));
     writer.add(&Entry::new(b"b", 5, ValueType::Value, b"")).unwrap();
     assert_eq!(Table::check(&writer.finish().unwrap()).unwrap().iter().count(), 2);
 }

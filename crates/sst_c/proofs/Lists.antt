@@ -7,7 +7,9 @@ pub mod BlockWindows
 pub mod Listed
 pub mod Passing
 pub mod RunBlockLists
-pub mod KeyRanges
 pub mod KeyPlaces
 pub mod Reversed
 pub mod OneBlock
+pub mod RunEnds
+pub mod RunHashes
+pub mod CheckEnds

@@ -31,7 +31,7 @@ abbrev pub IsOtherEndKept : Bool → SstWindow → SstWindow → Type 0
 IsOtherEndKept false old new = (new.end_block ≡ old.end_block) × (new.end_index ≡ old.end_index)
 IsOtherEndKept true old new = (new.first_block ≡ old.first_block) × (new.first_index ≡ old.first_index)
 
--- Of the entries that were passed, those below a number were listed behind those that the first places of an array list: where
+-- Of the entries that were passed, those below a number were listed after those that the first places of an array list: where
 -- they are in bytes.
 pub record Lists (bytes : List ℕ) (below : Option ℕ) (passed : List Entry) (old new : List SstPlace) (count_old count_new : ℕ) : Type 0 where
   pub more : (start : List SstPlace) (before : List Entry) → length before ≡ count_old → AreListed bytes before start old → AreListed bytes (before ++ visible below passed) start new

@@ -6,8 +6,9 @@ pub mod Footers
 pub mod Frames
 pub mod Given
 pub mod Index
-pub mod RunBlocks
 pub mod Runs
+pub mod RunWrites
+pub mod CheckEnds
 pub mod Listing
 pub mod Windows
 pub mod Batches

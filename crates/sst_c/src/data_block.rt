@@ -8,7 +8,6 @@ ghost use Rattle.sst_c.specs.Codes.{code_of};
 ghost use Rattle.sst_c.specs.declared.codes.Status.{Status};
 ghost use Rattle.sst_c.specs.declared.codes.Status.TheVariants.{Failed, BadArgument};
 ghost use Rattle.sst_c.specs.Given.{CanEncode, IsEncode};
-ghost use Rattle.sst_c.specs.Listing.{AreListed, IsListing};
 ghost use Rattle.sstable_blocks.specs.Prelude.{Entry, entries, IsOptionalRange, optional_range};
 ghost use Rattle.sstable_blocks.specs.Prelude.{items_in, first_match, data_check, trailer_in};
 ghost use Rattle.sstable_blocks.specs.Prelude.{entry_of, IsParsedEntry};
@@ -162,66 +161,6 @@ pub extern "C" fn sst_data_block_find(
     note_found(payload, key, below_seqno, place).code()
 }
 
-// Writes where the entries of a block are in the bytes that have its payload in them, from the
-// first place on.
-fn write_places(bytes: &[u8], start: usize, block: &DataBlockRef<'_, Xxh3>, places: &mut [SstPlace])
-    requires part { IsPartAt bytes.now start block.now.payload }
-    requires room { length block.now.items ≤ length places.old }
-    ensures { AreListed bytes.now block.now.items places.old places.new }
-{
-    let payload = block.as_slice();
-    let mut items = block.iter();
-    for i in 0..block.len() {
-        let Some(item) = items.next() else {
-            return;
-        };
-        places[i] = place_at(bytes, start, payload, &item);
-    }
-}
-
-/// Writes where all entries of a payload are in the bytes that have it in them, if there is room
-/// for them, and notes their number.
-pub(crate) fn list(
-    bytes: &[u8],
-    start: usize,
-    payload: &[u8],
-    places: &mut [SstPlace],
-    count: &mut usize,
-) -> Status
-    requires block { IsDataBlock payload.now }
-    requires part { IsPartAt bytes.now start payload.now }
-    ensures { IsListing bytes.now (items_in entries payload.now) places.old places.new count.new
-        result }
-{
-    let block = DataBlockRef::<Xxh3>::new(payload);
-    *count = block.len();
-    if places.len() < block.len() {
-        return Status::NoRoom;
-    }
-    write_places(bytes, start, &block, places);
-    Status::Done
-}
-
-/// Writes where all entries of a data block are, in bytes that are known to be one as for
-/// [`sst_data_block_find`]: in the block's order, tombstones too, from the first place on. No
-/// memory is taken, and nothing is copied.
-///
-/// Returns 0 and the number of entries, each of which has its place then, and leaves the places
-/// after them; or 18 where `places` is too short, and the number that is needed, and leaves
-/// `places`.
-#[unsafe(no_mangle)]
-pub extern "C" fn sst_data_block_entries(
-    payload: &[u8],
-    places: &mut [SstPlace],
-    count: &mut usize,
-) -> u32
-    requires { IsDataBlock payload.now }
-    ensures { (s : Status) × (result ≡ code_of s)
-        × IsListing payload.now (items_in entries payload.now) places.old places.new count.new s }
-{
-    list(payload, 0, payload, places, count).code()
-}
-
 // Checks any bytes, and notes the number of entries.
 fn check(alloc: Global, payload: &[u8], count: &mut usize) -> Status
     ensures { IsCheck (IsDataBlock payload.now)
@@ -255,8 +194,8 @@ pub extern "C" fn sst_data_block_check(payload: &[u8], count: &mut usize, alloc:
     check(alloc, payload, count).code()
 }
 
-// The entries that are given, if they can be encoded, over the same bytes.
-fn checked_items<'a>(
+/// The entries that are given, if they can be encoded, over the same bytes.
+pub(crate) fn checked_items<'a>(
     alloc: Global,
     entries: &[SstEntry<'a>],
     interval: u8,

@@ -2,9 +2,10 @@
 ghost use Rattle.std.specs.Prelude.{◌≡◌, [], length, map, IfOk, IsOkUnless};
 ghost use Rattle.xxh3.specs.Xxh3.{xxh3_64};
 ghost use Rattle.sst_c.specs.Codes.{code_of};
-ghost use Rattle.sst_c.specs.Filters.{CanBuild, IsFilterAnswer, IsFilterBuild, IsFilterPayload};
+ghost use Rattle.sst_c.specs.Filters.{CanBuild, IsFilterAnswer, IsFilterBuild};
 ghost use Rattle.sst_c.specs.declared.codes.Status.{Status};
 ghost use Rattle.sstable_blocks.specs.Filter.{filter_at, IsFilterOf};
+ghost use Rattle.sstable_blocks.specs.Run.{IsFilterText};
 
 use crate::codes::Status;
 use crate::output::write_bytes;
@@ -54,11 +55,34 @@ fn insert(builder: &mut Builder, keys: &[&[u8]])
     }
 }
 
+// Inserts hashes.
+fn insert_hashes(builder: &mut Builder, hashes: &[u64])
+    requires { IsFilterOf [] builder.old }
+    ensures inserted { IsFilterOf hashes.now builder.new }
+    ensures m { builder.new.m ≡ builder.old.m }
+    ensures k { builder.new.k ≡ builder.old.k }
+{
+    for hash in hashes {
+        builder.set_with_hash(*hash);
+    }
+}
+
+/// The payload of a filter of hashes.
+pub(crate) fn payload_of_hashes(alloc: Global, hashes: &[u64], bits: u32) -> Result<Vec<u8>>
+    requires { CanBuild (length hashes.now) bits }
+    ensures ok { IfOk result (λ v. IsFilterText hashes.now bits v.items) }
+    ensures memory { IsOkUnless result Error.Memory }
+{
+    let mut builder = Builder::with_bpk(alloc, hashes.len(), bits)?;
+    insert_hashes(&mut builder, hashes);
+    let payload = builder.build(alloc)?;
+    Ok(payload)
+}
+
 // The payload of a filter of keys.
 fn payload_of(alloc: Global, keys: &[&[u8]], bits: u32) -> Result<Vec<u8>>
     requires { CanBuild (length keys.now) bits }
-    ensures ok { IfOk result (λ v. IsFilterPayload (length keys.now) bits
-        (map (λ k. xxh3_64 k.now) keys.now) v.items) }
+    ensures ok { IfOk result (λ v. IsFilterText (map (λ k. xxh3_64 k.now) keys.now) bits v.items) }
     ensures memory { IsOkUnless result Error.Memory }
 {
     let mut builder = Builder::with_bpk(alloc, keys.len(), bits)?;
@@ -69,8 +93,8 @@ fn payload_of(alloc: Global, keys: &[&[u8]], bits: u32) -> Result<Vec<u8>>
 
 // Builds a filter of keys into a buffer.
 fn build(alloc: Global, keys: &[&[u8]], bits: u32, out: &mut [u8], out_len: &mut usize) -> Status
-    ensures { IsFilterBuild (length keys.now) bits (map (λ k. xxh3_64 k.now) keys.now) out.old
-        out.new out_len.old out_len.new result }
+    ensures { IsFilterBuild bits (map (λ k. xxh3_64 k.now) keys.now) out.old out.new out_len.old
+        out_len.new result }
 {
     let policy = BloomConstructionPolicy::BitsPerKey(bits);
     if keys.is_empty() || bits == 0 || !policy.fits(keys.len()) {
@@ -98,8 +122,8 @@ pub extern "C" fn sst_filter_build(
     alloc: Global,
 ) -> u32
     ensures { (s : Status) × (result ≡ code_of s)
-        × IsFilterBuild (length keys.now) bits_per_key (map (λ k. xxh3_64 k.now) keys.now)
-        out.old out.new out_len.old out_len.new s }
+        × IsFilterBuild bits_per_key (map (λ k. xxh3_64 k.now) keys.now) out.old out.new
+        out_len.old out_len.new s }
 {
     build(alloc, keys, bits_per_key, out, out_len).code()
 }

@@ -115,8 +115,8 @@ pub extern "C" fn sst_index_block_check(payload: &[u8], count: &mut usize) -> u3
     check(payload, count).code()
 }
 
-// The handles that are given, if they can be encoded.
-fn checked_items(
+/// The handles that are given, if they can be encoded.
+pub(crate) fn checked_items(
     alloc: Global,
     given: &[SstKeyedHandle<'_>],
     interval: u8,

@@ -1,4 +1,4 @@
-//! The block layer behind calls from C: `examples/c/sst.h` is the document for callers.
+//! The block layer after calls from C: `examples/c/sst.h` is the document for callers.
 //!
 //! Bytes and arrays are borrowed for the call; nothing that owns memory crosses, and nothing is
 //! kept between calls, so any thread may call. A call returns a code: see [`codes`].
@@ -15,8 +15,9 @@ pub mod handles;
 pub mod index_block;
 mod output;
 pub mod run;
-pub mod run_blocks;
+pub mod run_check;
 pub mod run_range;
 pub mod run_scan;
+pub mod run_write;
 pub mod version;
 pub mod window;

@@ -25,8 +25,8 @@ use sstable_blocks::run::laws::sound_opens;
 use sstable_blocks::table::block::header::HEADER_LEN;
 use sstable_blocks::table::data_block::DataBlockParsedItem;
 use sstable_blocks::{
-    BlockHandle, BlockOffset, DataBlock, EntryView, Error, HashRatio, RunConfig, RunHandles, SeqNo,
-    Steps, Xxh3, cuts_fit, write_run,
+    BlockHandle, BlockOffset, DataBlock, EntryView, Error, HashRatio, RunConfig, RunHandles,
+    RunSummary, SeqNo, Steps, Xxh3, cuts_fit, write_run,
 };
 use std::alloc::Global;
 
@@ -90,18 +90,30 @@ pub(crate) fn run_handles(given: &SstRunHandles) -> RunHandles
     }
 }
 
+/// The numbers of a summary, as C has them.
+pub(crate) fn summary_told(found: &RunSummary) -> SstSummary
+    ensures { result ≡ record {
+      blocks = found.now.blocks;
+      entries = found.now.entries;
+      least_seqno = found.now.least_seqno;
+      greatest_seqno = found.now.greatest_seqno;
+    } }
+{
+    SstSummary {
+        blocks: found.blocks,
+        entries: found.entries,
+        least_seqno: found.least_seqno,
+        greatest_seqno: found.greatest_seqno,
+    }
+}
+
 // Checks any bytes and handles, and notes what is counted.
 fn check(alloc: Global, bytes: &[u8], handles: &RunHandles, summary: &mut SstSummary) -> Status
     ensures { IsRunCheck bytes.now handles.now summary.old summary.new result }
 {
     match RunRef::<Xxh3>::check(alloc, bytes, handles) {
         Ok((_, found)) => {
-            *summary = SstSummary {
-                blocks: found.blocks,
-                entries: found.entries,
-                least_seqno: found.least_seqno,
-                greatest_seqno: found.greatest_seqno,
-            };
+            *summary = summary_told(&found);
             Status::Done
         }
         Err(error) => Status::Failed(error),
@@ -222,8 +234,8 @@ pub extern "C" fn sst_run_get(
     note_found(bytes, &run_handles(handles), key, below_seqno, place).code()
 }
 
-// The configuration that is given.
-fn config_of(given: &SstRunConfig) -> RunConfig
+/// The configuration that is given.
+pub(crate) fn config_of(given: &SstRunConfig) -> RunConfig
     ensures { result ≡ config_given given.now }
 {
     RunConfig {
@@ -306,8 +318,8 @@ pub(crate) fn handles_told(handles: &RunHandles) -> SstRunHandles
     }
 }
 
-// Writes a run into a buffer, if it has room for it, and tells its handles.
-fn tell(
+/// Writes bytes into a buffer, if it has the capacity, and then notes the handles of their run.
+pub(crate) fn tell(
     bytes: &[u8],
     found: &RunHandles,
     out: &mut [u8],

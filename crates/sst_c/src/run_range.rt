@@ -11,12 +11,11 @@ ghost use Rattle.sstable_blocks.specs.Scans.{is_before, is_up_to};
 ghost use Rattle.sstable_blocks.specs.Sound.{ForSound, IsSoundRun};
 
 use crate::run::{SstRunHandles, run_handles};
-use crate::run_blocks::index_of;
-use crate::window::{RunBlock, SstWindow, block_at, is_uncrossed};
-use sst_block_core::table::block::intervals::Intervals;
+use crate::window::{RunBlock, SstWindow, block_at, index_of, is_uncrossed};
 use sstable_blocks::laws::index_block_is_read;
 use sstable_blocks::run::laws::sound_opens;
 use sstable_blocks::table::block::bound::Bound;
+use sstable_blocks::table::block::intervals::Intervals;
 use sstable_blocks::table::data_block::DataBlockParsedItem;
 use sstable_blocks::{InternalValue, RunHandles, Steps};
 
@@ -132,8 +131,8 @@ fn window_between(first: &Place, end: &Place) -> SstWindow
 
 /// Writes the window of the entries of a run with keys in a range: from a key on, if `has_from` is
 /// not 0, and up to before another, if `has_to` is not 0. The run is as for
-/// [`sst_run_block_count`](crate::run_blocks::sst_run_block_count). The window is empty where no
-/// key is in the range. No memory is taken.
+/// [`sst_run_get`](crate::run::sst_run_get). The window is empty where no key is in the range. No
+/// memory is taken.
 #[unsafe(no_mangle)]
 pub extern "C" fn sst_run_range(
     bytes: &[u8],

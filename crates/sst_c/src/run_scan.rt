@@ -31,7 +31,7 @@ fn is_under(below: Option<SeqNo>, seqno: SeqNo) -> bool
     }
 }
 
-// Lists the entry of an item behind those that are listed, if it is below a number.
+// Lists the entry of an item after those that are listed, if it is below a number.
 fn list_one(
     bytes: &[u8],
     part: &RunBlock<'_>,
@@ -331,9 +331,9 @@ pub(crate) fn number_of(has: u8, number: u64) -> Option<u64>
 
 /// Lists the next entries of a window of a run, of those with a sequence number strictly below one
 /// if `has_below` is not 0: the first of them, or from the back where `reverse` is not 0, the last
-/// one first. The run is as for
-/// [`sst_run_block_count`](crate::run_blocks::sst_run_block_count). No memory is taken, and nothing
-/// is copied. The end of the window that it goes from is moved over the entries that it went past.
+/// one first. The run is as for [`sst_run_get`](crate::run::sst_run_get). No memory is taken, and
+/// nothing is copied. The end of the window that it goes from is moved over the entries that it
+/// went past.
 ///
 /// Returns 0 and the number of entries, each of which has its place then, and leaves the places
 /// after them: all of the window's, or as many as there are places. Or 17 where the window is none

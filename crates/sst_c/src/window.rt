@@ -1,19 +1,19 @@
 //! Windows of runs: what a scan has left, as numbers that the caller keeps.
 ghost use Rattle.std.specs.Prelude.{◌≡◌, ◌↔◌, ◌<◌, ◌≤◌, ℕ, List, IsTrue, length, slice_get, Some};
 ghost use Rattle.std.specs.Prelude.{false};
-ghost use Rattle.sst_block_core.specs.DataBlock.{data_ref_of};
 ghost use Rattle.sst_c.specs.Blocks.{IsPartAt};
 ghost use Rattle.sst_c.specs.Runs.{run_hashes};
 ghost use Rattle.sst_c.specs.Windows.{IsPlaceIn, IsUpToPlace, IsWindow, blocks_in};
 ghost use Rattle.sstable_blocks.specs.Opened.{IsFrameRange, index_in, payload_in};
-ghost use Rattle.sstable_blocks.specs.Prelude.{Entry, IsEntry, IsBlock, entries, items_in};
+ghost use Rattle.sstable_blocks.specs.Prelude.{Entry, IsBlock, IsEntry, data_ref_of, entries};
+ghost use Rattle.sstable_blocks.specs.Prelude.{items_in};
 ghost use Rattle.sstable_blocks.specs.Sound.{IsSoundRun};
 ghost use Rattle.xxh3.specs.Xxh3.{xxh3_64};
 
 use crate::run::{payload_of, start_of};
-use crate::run_blocks::index_of;
 use sstable_blocks::run::laws::sound_opens;
 use sstable_blocks::table::data_block::DataBlockRef;
+use sstable_blocks::table::index_block::IndexBlockRef;
 use sstable_blocks::{BlockHandle, RunHandles, Steps, Xxh3};
 
 /// What a scan of a run has left: the entries from a first place on up to, not including, an end.
@@ -38,6 +38,18 @@ pub(crate) struct RunBlock<'a> {
     pub(crate) start: usize,
     pub(crate) block: DataBlockRef<'a, Xxh3>,
     ghost read: { block ≡ data_ref_of block.payload false },
+}
+
+/// The index of a sound run.
+#[tactic(auto, using(sstable_blocks::specs::RunLaws::payload_fits))]
+pub(crate) fn index_of<'a>(bytes: &'a [u8], handles: &RunHandles) -> IndexBlockRef<'a>
+    requires { IsSoundRun run_hashes bytes.now handles.now }
+    ensures { result.items ≡ index_in bytes.now handles.now.index }
+{
+    sound_opens();
+    // A size has 32 bits.
+    let _fits = handles.index.size();
+    IndexBlockRef::new(payload_of(bytes, &handles.index))
 }
 
 // The frame of the block at an index of a run.

@@ -1,11 +1,12 @@
 -- Windows over the joined blocks of a list: what is between two places of the blocks.
-use Rattle.std.proofs.Common.{◌≡◌, ◌∙◌, ℕ, zero, suc, ◌+◌, ◌-◌, ◌≤◌, ◌<◌, List, [], ◌∷◌, ◌++◌, length, take, drop, sym, ap, arith, inl, inr, Some, append_assoc, length-append, length-drop}
+use Rattle.std.proofs.Common.{◌≡◌, ◌∙◌, ℕ, zero, suc, ◌+◌, ◌-◌, ◌≤◌, ◌<◌, List, [], ◌∷◌, ◌++◌, length, take, drop, sym, ap, arith, inl, inr, Some, append_assoc, length-drop}
 use Rattle.std.specs.Prelude.{slice_get, ◌⊎◌}
 use Rattle.std.proofs.Math.Seq.{take-add, drop-append-add}
 use Rattle.std.proofs.lemmas.Bool.{cases_lt}
-use Rattle.std.proofs.lemmas.List.{append-nil, drop-append-le, take-append-le, take_all, drop-drop}
+use Rattle.std.proofs.lemmas.List.{drop-append-le, take-append-le, take_all, drop-drop}
 use Rattle.sstable_blocks.specs.Prelude.{items_left}
 use Rattle.sstable_blocks.specs.Blocks.{joined}
+use Rattle.sstable_blocks.specs.JoinedLaws.{before_le, before_next}
 
 -- the items between two indexes of a list
 abbrev pub between : {X : Type 0} → List X → ℕ → ℕ → List X
@@ -30,26 +31,6 @@ joined_at (x ∷ blocks) zero xs at = let same : x ≡ xs = cc (at) in ap (λ v.
 joined_at (x ∷ blocks) (suc b) xs at =
     ap (λ v. x ++ v) (joined_at blocks b xs at) ∙ sym (append_assoc x (joined (take b blocks)) (xs ++ joined (drop (suc b) blocks)))
 
--- how many are before the next block
-pub before_next : {X : Type 0} (blocks : List (List X)) (b : ℕ) (xs : List X) → slice_get blocks b ≡ Some xs → length (joined (take (suc b) blocks)) ≡ length (joined (take b blocks)) + length xs
-before_next [] b xs at = absurd (cc)
-before_next (x ∷ blocks) zero xs at = let same : x ≡ xs = cc (at) in ap (λ (v : List _). length v) (append-nil x) ∙ ap (λ (v : List _). length v) same ∙ omega arith
-before_next (x ∷ blocks) (suc b) xs at =
-    let next = before_next blocks b xs at in
-    let long = length-append x (joined (take (suc b) blocks)) in
-    let short = length-append x (joined (take b blocks)) in
-    omega (arith, next, long, short)
-
-pub before_rises : {X : Type 0} (blocks : List (List X)) (m n : ℕ) → m ≤ n → length (joined (take m blocks)) ≤ length (joined (take n blocks))
-before_rises blocks zero n less = omega arith
-before_rises [] (suc m) n less = omega arith
-before_rises (x ∷ blocks) (suc m) zero less = absurd (omega (arith, less))
-before_rises (x ∷ blocks) (suc m) (suc n) less =
-    let rest = before_rises blocks m n (omega (arith, less)) in
-    let long = length-append x (joined (take n blocks)) in
-    let short = length-append x (joined (take m blocks)) in
-    omega (arith, rest, long, short)
-
 -- the items between two places of one block
 pub within_block : {X : Type 0} (blocks : List (List X)) (b i t : ℕ) (xs : List X) → slice_get blocks b ≡ Some xs → i ≤ t → t ≤ length xs
     → between (joined blocks) (length (joined (take b blocks)) + i) (length (joined (take b blocks)) + t) ≡ between xs i t
@@ -69,7 +50,7 @@ pub place_rises : {X : Type 0} (blocks : List (List X)) (b i c j : ℕ) (xs : Li
     → length (joined (take b blocks)) + i ≤ length (joined (take c blocks)) + j
 place_rises blocks b i c j xs at inside (inl less) =
     let next = before_next blocks b xs at in
-    let up = before_rises blocks (suc b) c (omega (arith, less)) in
+    let up = before_le blocks (suc b) c (omega (arith, less)) in
     omega (arith, next, up, inside)
 place_rises blocks b i c j xs at inside (inr same) =
     let n = ap (λ k. length (joined (take k blocks))) same.0 in

@@ -23,7 +23,7 @@ use Rattle.sst_c.specs.Ranges.{IsWindowOf, key_given}
 use Rattle.sst_c.specs.Runs.{run_hashes}
 use Rattle.sst_c.specs.Windows.{IsWindow, blocks_in, left_in, stored}
 use Rattle.sst_c.specs.declared.window.SstWindow.{SstWindow}
-use Rattle.sst_c.proofs.Lists.KeyRanges.{within_between}
+use Rattle.sstable_blocks.specs.KeyRangeLaws.{within_between}
 use Rattle.sst_c.proofs.Lists.RunBlockLists.{blocks_stored}
 
 -- blocks as they are stored have the same ends

@@ -1,5 +1,5 @@
 -- Lists of places that grow: of no entry, of one, and of those of two lists.
-use Rattle.std.proofs.Common.{◌≡◌, ◌∙◌, ℕ, ◌+◌, ◌≤◌, ◌<◌, true, false, cond, List, [], ◌∷◌, ◌++◌, length, take, set, refl, sym, ap, arith, subst, Option, Some, append_assoc, length-append, length-set}
+use Rattle.std.proofs.Common.{◌≡◌, ◌∙◌, ℕ, ◌+◌, ◌≤◌, ◌<◌, true, cond, List, [], ◌∷◌, ◌++◌, length, take, set, refl, sym, ap, arith, subst, Option, Some, append_assoc, length-append, length-set}
 use Rattle.std.specs.Prelude.{slice_get}
 use Rattle.std.proofs.lemmas.List.{append-nil, get_or_at, length_push, take_all, take_at}
 use Rattle.std.proofs.lemmas.List.Elements.{filter-append}
@@ -15,7 +15,7 @@ use Rattle.sst_c.proofs.Lists.Listings.{one_more_listed}
 pub none_listed : (p : List ℕ) (old : List SstPlace) → AreListed p [] old old
 none_listed p old = record { each = λ i f e here there. absurd (cc); others = refl; kept = refl }
 
--- an entry more behind those that are listed
+-- an entry more after those that are listed
 pub push_listed : (p : List ℕ) (before : List Entry) (old new : List SstPlace) (i : ℕ) (f : SstPlace) (e : Entry) → length before ≡ i → i < length new → IsPlaceOf p f e → AreListed p before old new
     → AreListed p (before ++ e ∷ []) old (set new i f)
 push_listed p before old new i f e len room is so_far =
@@ -36,7 +36,7 @@ lists_none bytes below old count room = record {
   kept = refl;
 }
 
--- an entry that is below the number has its place behind the others
+-- an entry that is below the number has its place after the others
 pub lists_one : (bytes : List ℕ) (below : Option ℕ) (e : Entry) (old : List SstPlace) (count : ℕ) (f : SstPlace) → is_under below e.key.seqno ≡ true → count < length old → IsPlaceOf bytes f e
     → Lists bytes below (e ∷ []) old (set old count f) count (count + 1)
 lists_one bytes below e old count f less room is =

@@ -5,7 +5,7 @@ use Rattle.std.proofs.lemmas.Bool.{cases_order}
 use Rattle.std.proofs.lemmas.Grind.{get_or-set_at}
 use Rattle.std.proofs.lemmas.List.{get_or-set_other, get_or-take, length-take-le, drop-set-lt, drop-drop}
 use Rattle.std.proofs.lemmas.Option.{slice_get_within, get_or_from_slice_get, slice_get-get_or}
-use Rattle.sstable_blocks.specs.Prelude.{Entry, entry_of, DataBlockParsedItem}
+use Rattle.sstable_blocks.specs.Prelude.{Entry}
 use Rattle.sst_c.specs.Blocks.{IsPlaceOf}
 use Rattle.sst_c.specs.Listing.{AreListed}
 use Rattle.sst_c.specs.declared.data_block.SstPlace.{SstPlace}
@@ -69,10 +69,3 @@ first_from (y ∷ xs) rest zero x e =
 first_from (y ∷ xs) rest (suc i) x e =
     let later = first_from xs rest i x e in
     (omega (arith, later.0), later.1, later.2)
-
--- the place of the item that a step of an iterator gives
-pub item_listed : (bytes p q : List ℕ) (items rest : List Entry) (old new : List SstPlace) (i : ℕ) (f : SstPlace) (item : DataBlockParsedItem) → q ≡ p → drop i items ≡ entry_of p item ∷ rest → length items ≤ length old
-    → IsPlaceOf bytes f (entry_of q item) → AreListed bytes (take i items) old new → AreListed bytes (take (i + 1) items) old (set new i f)
-item_listed bytes p q items rest old new i f item same left room is so_far =
-    let at = first_from items rest i (entry_of p item) left in
-    one_more_listed bytes items old new i f (entry_of p item) at.0 room at.1 (subst (λ r. IsPlaceOf bytes f (entry_of r item)) same is) so_far

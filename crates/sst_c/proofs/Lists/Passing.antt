@@ -11,7 +11,8 @@ use Rattle.sst_c.specs.Batches.{IsBatch, IsCut, IsOtherEndKept, Lists, Passes}
 use Rattle.sst_c.specs.Windows.{IsUpToPlace, IsWindow, left_in}
 use Rattle.sst_c.specs.declared.data_block.SstPlace.{SstPlace}
 use Rattle.sst_c.specs.declared.window.SstWindow.{SstWindow}
-use Rattle.sst_c.proofs.Lists.BlockWindows.{before_next, between, between_none, place_rises, split_between, within_block}
+use Rattle.sstable_blocks.specs.JoinedLaws.{before_next}
+use Rattle.sst_c.proofs.Lists.BlockWindows.{between, between_none, place_rises, split_between, within_block}
 use Rattle.sst_c.proofs.Lists.Listed.{lists_more, lists_none, none_listed}
 
 no_cut : (back : Bool) (xs : List Entry) → IsCut back xs [] xs

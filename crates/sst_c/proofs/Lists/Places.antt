@@ -42,7 +42,7 @@ frame_payload bytes h range =
     let size : h.offset + h.size - (h.offset + 33) ≡ h.size - 33 = omega (arith, header) in
     ap (λ n. take n (drop (h.offset + 33) bytes)) size
 
--- it begins behind the header
+-- it begins after the header
 pub frame_part : (bytes : List ℕ) (h : HandleParts) → IsFrameRange bytes h → IsPartAt bytes (h.offset + 33) (payload_in bytes h)
 unfolding payload_in
 frame_part bytes h range =

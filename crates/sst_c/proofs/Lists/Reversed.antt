@@ -55,7 +55,7 @@ module _ {X : Type 0} (xs : List X) (a b : ℕ) (some : a ≤ b) (inside : b ≤
       let size : length front ≡ b = omega (arith, length-append (take a xs) (reverse part), front_len, length-reverse part, part_len, some) in
       ap (λ (v : List _). drop b v) (sym (append_assoc (take a xs) (reverse part) (drop b xs))) ∙ drop_at front (drop b xs) b size
 
--- the entries behind some, turned round with their places
+-- the entries after some, turned round with their places
 pub listed_turned : (p : List ℕ) (before ys : List Entry) (start mid : List SstPlace) (a b : ℕ) → length before ≡ a → a + length ys ≡ b → b ≤ length mid → AreListed p (before ++ ys) start mid
     → AreListed p (before ++ reverse ys) start (turned a b mid)
 listed_turned p before ys start mid a b front all inside are = record {

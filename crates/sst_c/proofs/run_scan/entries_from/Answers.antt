@@ -1,8 +1,7 @@
 use Rattle.std.proofs.Common.{◌≡◌, ◌∙◌, ◌<◌, ◌-◌, ◌*◌, ◌/◌, List, [], length, drop, take, sym, ap, arith, subst, add-one, length-drop}
 use Rattle.std.proofs.Math.Nat.{div-mul-le_self}
 use Rattle.std.proofs.lemmas.List.{take_rest}
-use Rattle.sst_block_core.specs.Body.{place_offset}
-use Rattle.sstable_blocks.specs.Prelude.{Entry, IsParsedEntry, Window, entries, entry_of, items_left}
+use Rattle.sstable_blocks.specs.Prelude.{Entry, IsParsedEntry, Window, entries, entry_of, items_left, place_offset}
 use Rattle.sstable_blocks.specs.BlockLaws.{took_some, next_none}
 use Rattle.sst_c.proofs.Lists.Listings.{first_from}
 use Rattle.sst_c.proofs.run_scan.entries_from.Goals as goal

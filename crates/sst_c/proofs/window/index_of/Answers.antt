@@ -2,7 +2,7 @@ use Rattle.std.proofs.Common.{sym, subst}
 use Rattle.sstable_blocks.specs.Prelude.{IsIndexBlock}
 use Rattle.sstable_blocks.specs.Opened.{index_in}
 use Rattle.sst_c.specs.Runs.{run_hashes}
-use Rattle.sst_c.proofs.run_blocks.index_of.Goals as goal
+use Rattle.sst_c.proofs.window.index_of.Goals as goal
 
 pub payload_of-requires : goal.payload_of-requires
 payload_of-requires c = (c.sound_opens.ensures run_hashes c.requires.0 c.args.bytes.now c.args.handles.now c.requires.1).index_range

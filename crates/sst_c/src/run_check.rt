@@ -1,0 +1,210 @@
+//! Where a check of a run ends.
+ghost use Rattle.std.specs.Prelude.{◌≡◌, ◌≢◌, ◌+◌, ◌-◌, ◌≤◌, ◌<◌, ◌^◌, List, length, min, slice_get};
+ghost use Rattle.std.specs.Prelude.{Some, Ok};
+ghost use Rattle.std.specs.Option.{option_map};
+ghost use Rattle.sst_c.specs.CheckEnds.{frames_read, IsCheckEnd, IsFrameOf, IsLastFrame};
+ghost use Rattle.sst_c.specs.Codes.{code_of};
+ghost use Rattle.sst_c.specs.Runs.{handles_given, run_hashes, IsRunCheck};
+ghost use Rattle.sst_c.specs.declared.codes.Status.{Status};
+ghost use Rattle.sstable_blocks.specs.BlockLaws.{handle_range};
+ghost use Rattle.sstable_blocks.specs.FrameCounts.{check_frames};
+ghost use Rattle.sstable_blocks.specs.Prelude.{Handle, block_type_byte};
+ghost use Rattle.sstable_blocks.specs.RunReading.{handles_at};
+ghost use Rattle.sstable_blocks.specs.Sources.{filter_frames};
+
+use crate::codes::Status;
+use crate::run::{SstRunHandles, SstSummary, payload_of, run_handles, summary_told};
+use sstable_blocks::ghost_state::Count;
+use sstable_blocks::laws::index_check_accepts_encodings;
+use sstable_blocks::run::check;
+use sstable_blocks::table::index_block::IndexBlockRef;
+use sstable_blocks::{
+    BlockHandle, BlockType, Error, FrameSource, Result, RunHandles, Slice, Steps, Xxh3,
+};
+use std::alloc::Global;
+use std::marker::Model;
+
+/// Where a check of a run ended: the frame that it read last.
+#[repr(C)]
+#[derive(Drop)]
+pub struct SstCheckEnd {
+    /// The part of the run, by the byte of its type of block: 0 a data block, 1 the index, 2 the
+    /// filter.
+    pub part: u8,
+    /// The index of the data block; 0 for another part.
+    pub block: usize,
+    /// Where the frame begins in the run, in bytes, by its handle.
+    pub offset: u64,
+    /// The length of the frame in bytes, by its handle.
+    pub size: u32,
+}
+
+// A run in bytes that are borrowed, and how many frames were requested, at most 2^64 - 1. A frame
+// is copied where it is read.
+#[derive(Drop)]
+struct CountedSource<'a> {
+    bytes: &'a [u8],
+    reads: Count,
+    count: u64,
+}
+
+impl<'a> Model for CountedSource<'a> {
+    ghost use Rattle.std.specs.Prelude.{◌≡◌, ◌-◌, ◌^◌, ℕ, List, min};
+    ghost use Rattle.sstable_blocks.specs.Prelude.{IsBytes};
+    ghost use Rattle.sstable_blocks.specs.Sources.{SourceParts};
+
+    ghost Value = { SourceParts (List ℕ) };
+
+    ghost view = { λ s. record { inner = s.bytes.now; failures = 0; reads = s.reads } };
+
+    ghost invariant = { λ s. IsBytes s.bytes.now × (s.count ≡ min s.reads (2 ^ 64 - 1)) };
+}
+
+impl<'a> CountedSource<'a> {
+    // Wraps the bytes of a run.
+    fn new(bytes: &'a [u8]) -> CountedSource<'a>
+        ensures { result ≡ record { inner = bytes.now; failures = 0; reads = 0 } }
+    {
+        CountedSource {
+            bytes,
+            reads: Count::new(),
+            count: 0,
+        }
+    }
+
+    // The number of frames that were requested.
+    fn count(&self) -> u64
+        ensures { result ≡ min self.now.reads (2 ^ 64 - 1) }
+    {
+        self.count
+    }
+}
+
+/// `Error::BadHandle` and `Error::Memory` alone.
+impl<'a> FrameSource for CountedSource<'a> {
+    ghost bytes = { λ s. Some s.inner };
+
+    ghost failures = { λ s. 0 };
+
+    ghost reads = { λ s. s.reads };
+
+    ghost is_reliable = { λ s. Unit {0} };
+
+    ghost may_refuse = { λ s h. length s.inner < h.offset + h.size };
+
+    #[tactic(auto, unfolding(sstable_blocks::specs::RunReading::range_at))]
+    fn read_frame(&mut self, alloc: Global, handle: &BlockHandle) -> Result<Slice> {
+        self.reads.add_one();
+        self.count = self.count.saturating_add(1);
+        let len = self.bytes.len() as u64;
+        let (offset, size) = (*handle.offset(), u64::from(handle.size()));
+        if size > len || offset > len - size {
+            return Err(Error::BadHandle);
+        }
+        Slice::new(
+            alloc,
+            &self.bytes[offset as usize..(offset + size) as usize],
+        )
+    }
+}
+
+// The place of the frame of a handle.
+fn end_at(part: BlockType, block: usize, handle: &BlockHandle) -> SstCheckEnd
+    ensures { IsFrameOf (block_type_byte part) block handle.now result }
+{
+    SstCheckEnd {
+        part: u8::from(part),
+        block,
+        offset: *handle.offset(),
+        size: handle.size(),
+    }
+}
+
+// The handle at an index of the index of a run, which a check reads.
+fn handle_at(bytes: &[u8], handles: &RunHandles, block: usize) -> BlockHandle
+    requires { (hs : List Handle) × (handles_at run_hashes bytes.now handles.now.index ≡ Ok hs)
+        × (block < length hs) }
+    ensures { (hs : List Handle) → handles_at run_hashes bytes.now handles.now.index ≡ Ok hs
+        → Some result ≡ option_map handle_range (slice_get hs block) }
+{
+    index_check_accepts_encodings();
+    // A size has 32 bits, and each cell is a byte.
+    let (_size, _len) = (handles.index.size(), bytes.len());
+    let index = IndexBlockRef::new(payload_of(bytes, &handles.index));
+    index.handle_at(block, &mut Steps::new())
+}
+
+// The number of frames of a filter.
+fn filter_frames(filter: &Option<BlockHandle>) -> u64
+    ensures { result ≡ filter_frames filter.now }
+{
+    match filter {
+        Some(_) => 1,
+        None => 0,
+    }
+}
+
+// The frame that a check of a run read last, after so many.
+fn last_frame(bytes: &[u8], handles: &RunHandles, frames: u64) -> SstCheckEnd
+    requires { frames ≡ frames_read bytes.now handles.now }
+    ensures { IsLastFrame bytes.now handles.now frames result }
+{
+    let before = filter_frames(&handles.filter);
+    if frames > before + 1 {
+        let block = (frames - before - 2) as usize;
+        return end_at(BlockType::Data, block, &handle_at(bytes, handles, block));
+    }
+    if frames == before + 1 {
+        return end_at(BlockType::Index, 0, &handles.index);
+    }
+    let read = handles.filter.as_ref().unwrap_or(&handles.index);
+    end_at(BlockType::Filter, 0, read)
+}
+
+// Checks any bytes and handles, and notes what is counted, or where the check ended.
+fn check_run(
+    alloc: Global,
+    bytes: &[u8],
+    handles: &RunHandles,
+    summary: &mut SstSummary,
+    end: &mut SstCheckEnd,
+) -> Status
+    ensures checked { IsRunCheck bytes.now handles.now summary.old summary.new result }
+    ensures end { IsCheckEnd bytes.now handles.now end.old end.new result }
+{
+    let mut source = CountedSource::new(bytes);
+    match check::<Xxh3, CountedSource<'_>>(alloc, &mut source, handles) {
+        Ok(found) => {
+            *summary = summary_told(&found);
+            Status::Done
+        }
+        Err(Error::Memory) => Status::Failed(Error::Memory),
+        Err(error) => {
+            *end = last_frame(bytes, handles, source.count());
+            Status::Failed(error)
+        }
+    }
+}
+
+/// Checks any bytes and handles as [`sst_run_check`](crate::run::sst_run_check) does, and says where
+/// the check ended: at the frame that it read last. Frames are read in this order: that of the
+/// filter, if there is one, that of the index, those of the blocks. The frame that a block's handle
+/// names is read only where it begins at the end of the one before; where it does not, that is
+/// error 14, and the frame before it, or the index, was read last.
+///
+/// Returns what [`sst_run_check`](crate::run::sst_run_check) returns. `end` is written where the
+/// bytes are refused, and else left, as it is where an allocation fails.
+#[unsafe(no_mangle)]
+pub extern "C" fn sst_run_check_at(
+    bytes: &[u8],
+    handles: &SstRunHandles,
+    summary: &mut SstSummary,
+    end: &mut SstCheckEnd,
+    alloc: Global,
+) -> u32
+    ensures { (s : Status) × (result ≡ code_of s)
+        × IsRunCheck bytes.now (handles_given handles.now) summary.old summary.new s
+        × IsCheckEnd bytes.now (handles_given handles.now) end.old end.new s }
+{
+    check_run(alloc, bytes, &run_handles(handles), summary, end).code()
+}
