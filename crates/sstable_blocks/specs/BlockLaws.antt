@@ -12,6 +12,7 @@ pub use Rattle.sst_block_core.specs.ListLaws.{all_reverse, first_filter, push_re
 pub use Rattle.sst_block_core.specs.ListSteps.{took_some}
 pub use Rattle.sst_block_core.specs.OffsetLaws.{body-append}
 pub use Rattle.sst_block_core.specs.HandleRanges.{handle_range}
+pub use Rattle.sst_block_core.specs.PlaceLaws.{next_in_interval}
 pub use Rattle.sst_block_core.specs.PointReads.{read_most}
 pub use Rattle.sst_block_core.specs.VersionLaws.{keys_equal}
 pub use Rattle.sst_block_core.specs.WindowLaws.{item_same, items_left-whole, next_none, next_some}

@@ -41,6 +41,7 @@ pub use open_run::OpenRun;
 pub use place::RunPlace;
 pub use read::{read_entry, shared_entry};
 pub use round_trip::write_and_read;
+pub use run_core::write_part;
 pub use run_ref::RunRef;
 pub use run_scan::RunScan;
 pub use scan::Scan;

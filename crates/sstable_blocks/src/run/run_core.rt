@@ -314,9 +314,14 @@ fn write_frame<H: BlockHash, W: Output>(
     Ok(())
 }
 
-// Writes a frame, where the next one begins at `offset`. Returns its handle, and the offset after
-// it.
-fn write_part<H: BlockHash, W: Output>(
+/// Writes the frame of a payload as the next part of a run, which begins at `offset`. Returns its
+/// handle, and the offset after it.
+///
+/// # Errors
+///
+/// `Error::TooLong` only where the payload has more than 4294967262 bytes, or the frame ends at 2^64
+/// or above; `Error::Io` if the writer fails.
+pub fn write_part<H: BlockHash, W: Output>(
     writer: &mut W,
     payload: &[u8],
     block_type: BlockType,
