@@ -13,7 +13,7 @@ use crate::run::run_of;
 use crate::sums::Summed;
 use crate::tables::table_over;
 use crate::views::view_scans_of;
-use sst_merge::{Compact, Head, Merge, Ranked, Sizes, Source, write_table};
+use sst_merge::{Compact, Head, KeepsKey, Merge, Ranked, Sizes, Source, write_table};
 use sstable_blocks::run::{RunRef, Scan};
 use sstable_blocks::{
     AsEntry, HashRatio, InternalValue, MemorySource, RunConfig, RunHandles, RunWriter, Slice,
@@ -210,7 +210,7 @@ fn table_len<T: Ranked + AsEntry + Drop, I: Source<T> + Drop>(
 }
 
 // The length of the table of what a compaction leaves of sources.
-fn compacted_len<T: Ranked + AsEntry + Drop, I: Source<T> + Drop>(
+fn compacted_len<T: Ranked + KeepsKey + Drop, I: Source<T> + Drop>(
     alloc: Global,
     sources: Vec<Head<T, I>>,
     config: RunConfig,

@@ -1,5 +1,5 @@
 //! How many bytes entries take in a data block.
-ghost use Rattle.std.specs.Prelude.{◌≡◌, ◌+◌, ◌<◌, ◌≤◌, ◌^◌, ◌++◌, ◌∷◌, [], length, map};
+ghost use Rattle.std.specs.Prelude.{◌≡◌, ◌+◌, ◌%◌, ◌<◌, ◌≤◌, ◌^◌, ◌++◌, ◌∷◌, [], ℕ, length, map};
 ghost use Rattle.sstable_blocks.specs.Prelude.{varint, item_form, truncated_against, entries, full};
 ghost use Rattle.sstable_blocks.specs.Prelude.{truncated, value_part};
 
@@ -77,16 +77,32 @@ fn len_behind(head: &EntryView<'_>, entry: &EntryView<'_>) -> usize
     truncated_len(entry, head.shared_key_len(entry))
 }
 
+/// Returns the index in its restart interval of the entry after one with this index.
+#[inline(always)]
+#[tactic(auto, using(sstable_blocks::specs::BlockLaws::next_in_interval))]
+pub(crate) fn next_phase(phase: u8, interval: u8) -> u8
+    requires { phase < interval }
+    ensures phase { (n : ℕ) → phase ≡ n % interval → result ≡ (n + 1) % interval }
+    ensures below { result < interval }
+{
+    if phase + 1 == interval { 0 } else { phase + 1 }
+}
+
 /// Returns how many bytes an entry takes in a data block with this restart interval, after these
-/// entries: of its key those that the head of its interval has not.
-pub(crate) fn form_len<T: AsEntry>(block: &[T], entry: &T, interval: u8) -> usize
-    requires { 1 ≤ interval }
+/// entries: of its key those that the head of its interval has not. `phase` is its index in the
+/// interval.
+#[inline(always)]
+pub(crate) fn form_len<T: AsEntry>(block: &[T], entry: &T, phase: u8, interval: u8) -> usize
+    requires phase { phase ≡ length block.now % interval }
+    requires interval { phase < interval }
     ensures value { result ≡ length (item_form entries interval
         (map T.entry block.now ++ T.entry entry.now ∷ []) (length block.now) (T.entry entry.now)) }
     ensures most { result < 2 ^ 34 }
 {
-    let at = block.len();
-    match block.get(at - at % usize::from(interval)) {
+    if phase == 0 {
+        return full_len(&entry.view());
+    }
+    match block.get(block.len() - usize::from(phase)) {
         Some(head) => len_behind(&head.view(), &entry.view()),
         None => full_len(&entry.view()),
     }

@@ -1,14 +1,17 @@
 //! Compaction of ordered versions.
 ghost use Rattle.std.specs.Prelude.{◌≡◌, ◌&&◌, false, not, List, IfErr, IfOk, OnOk, Some, None};
+ghost use Rattle.std.specs.Prelude.{IsOkUnless};
 ghost use Rattle.sst_merge.specs.Compact.{compact_from, compacted};
 ghost use Rattle.sst_merge.specs.Compact.{is_below_all, is_hidden, is_parted, is_seen};
 ghost use Rattle.sst_merge.specs.Compact.{PassesHidden, is_left_under, is_parted_from};
 ghost use Rattle.sst_merge.specs.Sources.{MayGive, MeetsNoMore, TakesFirst, left_as, with_held};
 ghost use Rattle.sstable_blocks.specs.Prelude.{is_tombstone};
+ghost use Rattle.sstable_blocks.specs.Results.{Memory};
 
 use crate::bottom::Bottom;
+use crate::kept_key::{KeepsKey, LastKey};
 use crate::source::{Source, keep_error};
-use sstable_blocks::{AsEntry, Error, Result, SeqNo, UserKey};
+use sstable_blocks::{AsEntry, Error, Result, SeqNo};
 use std::alloc::Global;
 use std::marker::{Model, PhantomData};
 
@@ -18,22 +21,23 @@ use std::marker::{Model, PhantomData};
 /// key one for each gap between two neighbouring snapshots. Of a key at the bottom, of which no
 /// older version is elsewhere, a tombstone goes too, unless a snapshot that does not see it sees an
 /// older version of the key. Where not every snapshot sees the tombstone, the next version that it
-/// does not hide is taken ahead, and held for the next step. The user key of each version that
-/// stays for a snapshot is copied, which takes memory above 40 bytes. An error ends the compaction,
-/// also one of a look ahead: each later step returns it again. Clauses see the versions left, where
-/// those of the source are known, and the error that ended the compaction, if one did.
+/// does not hide is taken ahead, and held for the next step. Of the last version that some snapshot
+/// sees the user key is kept ([`KeepsKey`]): of a view where it is, so nothing is copied. An error
+/// ends the compaction, also one of a look ahead: each later step returns it again. Clauses see the
+/// versions left, where those of the source are known, and the error that ended the compaction, if
+/// one did.
 #[derive(Drop)]
-pub struct Compact<T: AsEntry, I: Source<T>, B: Bottom> {
+pub struct Compact<T: KeepsKey, I: Source<T>, B: Bottom> {
     source: Ahead<T, I>,
     snapshots: Vec<SeqNo>,
     bottom: B,
     // The user key and the number of the last version that some snapshot sees and none newer hides.
-    last: Option<(UserKey, SeqNo)>,
+    last: Option<(LastKey<T>, SeqNo)>,
     ended: Option<Error>,
     versions: PhantomData<T>,
 }
 
-impl<T: AsEntry, I: Source<T>, B: Bottom> Model for Compact<T, I, B> {
+impl<T: KeepsKey, I: Source<T>, B: Bottom> Model for Compact<T, I, B> {
     ghost use Rattle.sst_merge.specs.Compact.{compact_from};
     ghost use Rattle.sst_merge.specs.Sources.{Left, left_as, with_held};
 
@@ -44,7 +48,7 @@ impl<T: AsEntry, I: Source<T>, B: Bottom> Model for Compact<T, I, B> {
         (with_held c.source.held (I.left c.source.source)) };
 }
 
-impl<T: AsEntry, I: Source<T>, B: Bottom> Compact<T, I, B> {
+impl<T: KeepsKey, I: Source<T>, B: Bottom> Compact<T, I, B> {
     /// Compacts ordered versions for the reads at these snapshots, in any order, and at or above
     /// all of them; no other read may be wanted any more. `bottom` says of which keys no older
     /// version is elsewhere.
@@ -87,15 +91,18 @@ fn is_below_all(snapshots: &[SeqNo], seqno: SeqNo) -> bool
 }
 
 // Whether every snapshot that sees a version sees the last one, which is newer and has its key.
-fn is_hidden<T: AsEntry>(snapshots: &[SeqNo], last: &(UserKey, SeqNo), item: &T) -> bool
+fn is_hidden<T: KeepsKey>(snapshots: &[SeqNo], last: &(LastKey<T>, SeqNo), item: &T) -> bool
     ensures { result ≡ is_hidden T.entry snapshots.now (Some last.now) item.now }
 {
-    let item = item.view();
-    item.compare_key(last.0.as_slice()).is_eq() && !is_parted(snapshots, item.seqno(), last.1)
+    last.0.is_of(item) && !is_parted(snapshots, item.view().seqno(), last.1)
 }
 
 // The same where there may be no last one yet.
-fn is_hidden_by<T: AsEntry>(snapshots: &[SeqNo], last: &Option<(UserKey, SeqNo)>, item: &T) -> bool
+fn is_hidden_by<T: KeepsKey>(
+    snapshots: &[SeqNo],
+    last: &Option<(LastKey<T>, SeqNo)>,
+    item: &T,
+) -> bool
     ensures { result ≡ is_hidden T.entry snapshots.now last.now item.now }
 {
     match last {
@@ -105,11 +112,10 @@ fn is_hidden_by<T: AsEntry>(snapshots: &[SeqNo], last: &Option<(UserKey, SeqNo)>
 }
 
 // Whether a version has the key of the last one, and a snapshot sees it and not the last one.
-fn is_parted_from<T: AsEntry>(snapshots: &[SeqNo], last: &(UserKey, SeqNo), item: &T) -> bool
+fn is_parted_from<T: KeepsKey>(snapshots: &[SeqNo], last: &(LastKey<T>, SeqNo), item: &T) -> bool
     ensures { result ≡ is_parted_from T.entry snapshots.now last.now item.now }
 {
-    let item = item.view();
-    item.compare_key(last.0.as_slice()).is_eq() && is_parted(snapshots, item.seqno(), last.1)
+    last.0.is_of(item) && is_parted(snapshots, item.view().seqno(), last.1)
 }
 
 // A source of which a version may be held that was taken ahead.
@@ -141,11 +147,11 @@ impl<T: AsEntry + Drop, I: Source<T>> Ahead<T, I> {
 // Whether a version of the last one's key is left under it. Passes the versions that the last one
 // hides, and holds the first other one.
 #[inline(never)]
-fn is_left_under<T: AsEntry + Drop, I: Source<T>>(
+fn is_left_under<T: KeepsKey + Drop, I: Source<T>>(
     alloc: Global,
     source: &mut Ahead<T, I>,
     snapshots: &[SeqNo],
-    last: &(UserKey, SeqNo),
+    last: &(LastKey<T>, SeqNo),
 ) -> Result<bool>
     ensures found { IfOk result (λ is_left. (xs : List T)
         → (with_held source.old.held (I.left source.old.source)).list ≡ Some xs
@@ -168,18 +174,34 @@ fn is_left_under<T: AsEntry + Drop, I: Source<T>>(
     Ok(false)
 }
 
+// Whether a version is a tombstone at the bottom. Of a tombstone the user key is made.
+#[inline(always)]
+fn may_go<T: AsEntry, B: Bottom>(alloc: Global, bottom: &B, item: &T) -> Result<bool>
+    ensures value { IfOk result (λ may_go. may_go
+        ≡ (is_tombstone (T.entry item.now).key.value_type
+        && B.at_bottom bottom.now (T.entry item.now).key.user_key)) }
+    ensures memory { IsOkUnless result Memory }
+{
+    if !item.view().is_tombstone() {
+        return Ok(false);
+    }
+    let user_key = item.view().to_user_key(alloc)?;
+    Ok(bottom.is_bottom(user_key.as_slice()))
+}
+
 // Whether a version goes that is the last one: it is a tombstone at the bottom, and none of its key
 // is left under it. Where every snapshot sees it, that needs no look ahead.
 #[tactic(auto, using(crate::specs::CompactLaws::none_under))]
 #[inline(always)]
-fn goes<T: AsEntry + Drop, I: Source<T>, B: Bottom>(
+fn goes<T: KeepsKey + Drop, I: Source<T>, B: Bottom>(
     alloc: Global,
     source: &mut Ahead<T, I>,
     snapshots: &[SeqNo],
     bottom: &B,
-    last: &(UserKey, SeqNo),
+    last: &(LastKey<T>, SeqNo),
     item: &T,
 ) -> Result<bool>
+    requires same { last.now.0 ≡ (T.entry item.now).key.user_key }
     ensures found { IfOk result (λ goes. (xs : List T)
         → (with_held source.old.held (I.left source.old.source)).list ≡ Some xs
         → goes ≡ (is_tombstone (T.entry item.now).key.value_type
@@ -195,7 +217,7 @@ fn goes<T: AsEntry + Drop, I: Source<T>, B: Bottom>(
     ensures no_more { OnOk result
         (MeetsNoMore (I.left source.old.source) (I.left source.new.source)) }
 {
-    if !item.view().is_tombstone() || !bottom.is_bottom(last.0.as_slice()) {
+    if !may_go(alloc, bottom, item)? {
         return Ok(false);
     }
     if is_below_all(snapshots, last.1) {
@@ -208,12 +230,12 @@ fn goes<T: AsEntry + Drop, I: Source<T>, B: Bottom>(
 // Takes versions from a source up to the first that stays, and notes the last one that is not
 // hidden.
 #[inline(always)]
-fn next_staying<T: AsEntry + Drop, I: Source<T>, B: Bottom>(
+fn next_staying<T: KeepsKey + Drop, I: Source<T>, B: Bottom>(
     alloc: Global,
     source: &mut Ahead<T, I>,
     snapshots: &[SeqNo],
     bottom: &B,
-    last: &mut Option<(UserKey, SeqNo)>,
+    last: &mut Option<(LastKey<T>, SeqNo)>,
 ) -> Result<Option<T>>
     ensures first { IfOk result (λ r. TakesFirst
         (left_as (compact_from T.entry snapshots.now (B.at_bottom bottom.now) last.old) None
@@ -224,7 +246,13 @@ fn next_staying<T: AsEntry + Drop, I: Source<T>, B: Bottom>(
     ensures no_more { OnOk result
         (MeetsNoMore (I.left source.old.source) (I.left source.new.source)) }
 {
-    while let Some(item) = source.take(alloc)? {
+    loop {
+        // (what a `?` passes on is copied)
+        let item = match source.take(alloc) {
+            Ok(Some(item)) => item,
+            Ok(None) => return Ok(None),
+            Err(error) => return Err(error),
+        };
         let seqno = item.view().seqno();
         if !is_seen(snapshots, seqno) {
             return Ok(Some(item));
@@ -232,18 +260,17 @@ fn next_staying<T: AsEntry + Drop, I: Source<T>, B: Bottom>(
         if is_hidden_by(snapshots, last, &item) {
             continue;
         }
-        let newest = (item.view().to_user_key(alloc)?, seqno);
+        let newest = (LastKey::of(alloc, &item)?, seqno);
         let goes = goes(alloc, source, snapshots, bottom, &newest, &item)?;
         *last = Some(newest);
         if !goes {
             return Ok(Some(item));
         }
     }
-    Ok(None)
 }
 
 /// Takes the first version that stays.
-impl<T: AsEntry + Drop, I: Source<T> + Drop, B: Bottom + Drop> Source<T> for Compact<T, I, B> {
+impl<T: KeepsKey + Drop, I: Source<T> + Drop, B: Bottom + Drop> Source<T> for Compact<T, I, B> {
     ghost left = { λ c. c };
 
     ghost may_fail = { I.may_fail };

@@ -9,6 +9,7 @@ ghost use Rattle.sstable_blocks.specs.Scans.{EndsBy};
 
 use crate::bottom::Bottom;
 use crate::compact::Compact;
+use crate::kept_key::KeepsKey;
 use crate::merge::Head;
 use crate::output::Outputs;
 use crate::ranked::Ranked;
@@ -101,7 +102,7 @@ pub fn write_tables<
 /// Those of the source, of the outputs and of [`write_table`]. The tables closed before stay.
 pub fn compact_tables<
     K: TableWriter<T, Writer = O::Writer>,
-    T: Ranked + AsEntry + Drop,
+    T: Ranked + KeepsKey + Drop,
     I: Source<T> + Drop,
     B: Bottom + Drop,
     O: Outputs,

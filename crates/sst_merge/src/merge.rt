@@ -26,13 +26,15 @@ use std::mem;
 #[derive(Drop)]
 pub struct Head<T: Ranked, I: Source<T>> {
     held: Option<T>,
-    // The front of the version that is held, the greatest number where none is.
-    front: u128,
+    // The front of the version that is held, the greatest number where none is, if it was made: a
+    // merge makes it.
+    front: Option<u128>,
     source: I,
     ended: Option<Error>,
 }
 
 impl<T: Ranked, I: Source<T>> Model for Head<T, I> {
+    ghost use Rattle.std.specs.Prelude.{IfSome};
     ghost use Rattle.sst_merge.specs.Fronts.{IsFrontOf};
     ghost use Rattle.sst_merge.specs.Sources.{Left, left_held, IsHeld};
 
@@ -41,7 +43,7 @@ impl<T: Ranked, I: Source<T>> Model for Head<T, I> {
     ghost view = { λ h. left_held h.held h.ended (I.left h.source) };
 
     ghost invariant = { λ h. IsHeld h.held (I.left h.source).list
-        × IsFrontOf T.number T.IsNumbered h.held h.front };
+        × IfSome h.front (IsFrontOf T.number T.IsNumbered h.held) };
 }
 
 // The front of a version that may be held.
@@ -52,6 +54,18 @@ fn front_of_held<T: Ranked>(held: &Option<T>) -> u128
     match held {
         Some(version) => version.front(),
         None => u128::MAX,
+    }
+}
+
+// The same, if it is wanted.
+#[inline(always)]
+fn front_if<T: Ranked>(is_ranked: bool, held: &Option<T>) -> Option<u128>
+    ensures { IfSome result (IsFrontOf T.number T.IsNumbered held.now) }
+{
+    if is_ranked {
+        Some(front_of_held(held))
+    } else {
+        None
     }
 }
 
@@ -71,7 +85,7 @@ impl<T: Ranked + Drop, I: Source<T> + Drop> Head<T, I> {
         ensures no_more { IfOk result (λ head. MeetsNoMore (I.left source) head) }
     {
         let held = source.next_entry(alloc)?;
-        let front = front_of_held(&held);
+        let front = Some(front_of_held(&held));
         Ok(Head {
             held,
             front,
@@ -111,13 +125,10 @@ impl<T: Ranked, I: Source<T>> Head<T, I> {
 }
 
 impl<T: Ranked + Drop, I: Source<T>> Head<T, I> {
-    /// Takes the first version left, if there is one.
-    ///
-    /// # Errors
-    ///
-    /// Those of the source's step. An error ends the source: each later step returns it again.
+    // Takes the first version left, if there is one, and makes the front of the next one, if that is
+    // wanted.
     #[inline(always)]
-    pub fn take(&mut self, alloc: Global) -> Result<Option<T>>
+    fn take_next(&mut self, alloc: Global, is_ranked: bool) -> Result<Option<T>>
         ensures first { IfOk result (λ r. TakesFirst self.old r self.new) }
         ensures ended { EndsBy self.old.ended self.new.ended result }
         ensures cause { IfErr result (MayGive I.may_fail self.old) }
@@ -132,11 +143,26 @@ impl<T: Ranked + Drop, I: Source<T>> Head<T, I> {
         // (a `?` would copy what it passes on)
         match self.source.next_entry(alloc) {
             Ok(next) => {
-                self.front = front_of_held(&next);
+                self.front = front_if(is_ranked, &next);
                 Ok(mem::replace(&mut self.held, next))
             }
             Err(error) => Err(note_error(&mut self.ended, &error)),
         }
+    }
+
+    /// Takes the first version left, if there is one.
+    ///
+    /// # Errors
+    ///
+    /// Those of the source's step. An error ends the source: each later step returns it again.
+    #[inline(always)]
+    pub fn take(&mut self, alloc: Global) -> Result<Option<T>>
+        ensures first { IfOk result (λ r. TakesFirst self.old r self.new) }
+        ensures ended { EndsBy self.old.ended self.new.ended result }
+        ensures cause { IfErr result (MayGive I.may_fail self.old) }
+        ensures no_more { OnOk result (MeetsNoMore self.old self.new) }
+    {
+        self.take_next(alloc, false)
     }
 
     /// Passes the first version left, if there is one: the next one is then held in its place.
@@ -160,7 +186,7 @@ impl<T: Ranked + Drop, I: Source<T>> Head<T, I> {
         }
         match self.source.next_entry(alloc) {
             Ok(next) => {
-                self.front = front_of_held(&next);
+                self.front = Some(front_of_held(&next));
                 self.held = next;
                 Ok(true)
             }
@@ -180,11 +206,11 @@ fn goes_first<T: Ranked, I: Source<T>>(
     ensures { (xs ys : List T) → first.now.list ≡ Some xs → second.now.list ≡ Some ys
         → result ≡ goes T.cmp is_later xs ys }
 {
-    if first.front != second.front {
-        return first.front < second.front;
+    match (first.front, second.front) {
+        (Some(front), Some(other)) if front != other => front < other,
+        // (out of line, so that the rest of a tournament has no branches)
+        _ => goes_first_held(first, second, is_later),
     }
-    // (out of line, so that the rest of a tournament has no branches)
-    goes_first_held(first, second, is_later)
 }
 
 // The same, by what is held.
@@ -475,7 +501,7 @@ impl<T: Ranked + Drop, I: Source<T> + Drop> Source<T> for Merge<T, I> {
         let first = first_of(&self.heads, &mut self.places, &mut self.stale);
         self.stale = (self.heads.len() + first) / 2;
         // (what a `?` or a variable passes on is copied)
-        match self.heads[first].take(alloc) {
+        match self.heads[first].take_next(alloc, true) {
             Ok(taken) => Ok(taken),
             Err(error) => Err(note_error(&mut self.ended, &error)),
         }

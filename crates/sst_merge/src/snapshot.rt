@@ -3,25 +3,26 @@ ghost use Rattle.std.specs.Prelude.{◌≡◌, IfErr, IfOk, OnOk, None};
 ghost use Rattle.sst_merge.specs.Snapshot.{snapshot, visible_from, has_last_key};
 ghost use Rattle.sst_merge.specs.Sources.{MayGive, MeetsNoMore, TakesFirst, left_as};
 
+use crate::kept_key::{KeepsKey, LastKey};
 use crate::source::{Source, keep_error};
-use sstable_blocks::{AsEntry, Error, Result, SeqNo, UserKey};
+use sstable_blocks::{Error, Result, SeqNo};
 use std::alloc::Global;
 use std::marker::{Model, PhantomData};
 
 /// Of each user key the newest version with a sequence number strictly below the snapshot's, unless
-/// it is a tombstone. Each user key is copied once, which takes memory above 40 bytes. An error
-/// ends the view: each later step returns it again. Clauses see the versions left, where those of
-/// the source are known, and the error that ended the view, if one did.
+/// it is a tombstone. The last user key is kept ([`KeepsKey`]): of a view where it is, so nothing is
+/// copied. An error ends the view: each later step returns it again. Clauses see the versions left,
+/// where those of the source are known, and the error that ended the view, if one did.
 #[derive(Drop)]
-pub struct Snapshot<T: AsEntry, I: Source<T>> {
+pub struct Snapshot<T: KeepsKey, I: Source<T>> {
     source: I,
     seqno: SeqNo,
-    last: Option<UserKey>,
+    last: Option<LastKey<T>>,
     ended: Option<Error>,
     versions: PhantomData<T>,
 }
 
-impl<T: AsEntry, I: Source<T>> Model for Snapshot<T, I> {
+impl<T: KeepsKey, I: Source<T>> Model for Snapshot<T, I> {
     ghost use Rattle.sst_merge.specs.Snapshot.{visible_from};
     ghost use Rattle.sst_merge.specs.Sources.{Left, left_as};
 
@@ -32,16 +33,16 @@ impl<T: AsEntry, I: Source<T>> Model for Snapshot<T, I> {
 }
 
 // Whether a version has the last key.
-pub(crate) fn has_last_key<T: AsEntry>(last: &Option<UserKey>, item: &T) -> bool
+pub(crate) fn has_last_key<T: KeepsKey>(last: &Option<LastKey<T>>, item: &T) -> bool
     ensures { result ≡ has_last_key T.entry last.now item.now }
 {
     match last {
-        Some(last) => item.view().compare_key(last.as_slice()).is_eq(),
+        Some(last) => last.is_of(item),
         None => false,
     }
 }
 
-impl<T: AsEntry, I: Source<T>> Snapshot<T, I> {
+impl<T: KeepsKey, I: Source<T>> Snapshot<T, I> {
     /// Makes the view of ordered versions at a sequence number: what a read at it sees.
     pub fn new(source: I, seqno: SeqNo) -> Snapshot<T, I>
         ensures { result ≡ left_as (snapshot T.entry seqno) None (I.left source) }
@@ -59,11 +60,11 @@ impl<T: AsEntry, I: Source<T>> Snapshot<T, I> {
 // Takes versions from a source up to the first that a snapshot sees, and notes the key of the
 // newest one below its sequence number.
 #[inline(always)]
-fn next_seen<T: AsEntry + Drop, I: Source<T>>(
+fn next_seen<T: KeepsKey + Drop, I: Source<T>>(
     alloc: Global,
     source: &mut I,
     seqno: SeqNo,
-    last: &mut Option<UserKey>,
+    last: &mut Option<LastKey<T>>,
 ) -> Result<Option<T>>
     ensures first { IfOk result (λ r.
         TakesFirst (left_as (visible_from T.entry seqno last.old) None (I.left source.old)) r
@@ -75,7 +76,7 @@ fn next_seen<T: AsEntry + Drop, I: Source<T>>(
         if item.view().seqno() >= seqno || has_last_key(last, &item) {
             continue;
         }
-        *last = Some(item.view().to_user_key(alloc)?);
+        *last = Some(LastKey::of(alloc, &item)?);
         if !item.view().is_tombstone() {
             return Ok(Some(item));
         }
@@ -84,7 +85,7 @@ fn next_seen<T: AsEntry + Drop, I: Source<T>>(
 }
 
 /// Takes the first version that the snapshot sees.
-impl<T: AsEntry + Drop, I: Source<T> + Drop> Source<T> for Snapshot<T, I> {
+impl<T: KeepsKey + Drop, I: Source<T> + Drop> Source<T> for Snapshot<T, I> {
     ghost left = { λ s. s };
 
     ghost may_fail = { I.may_fail };

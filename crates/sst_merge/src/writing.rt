@@ -7,7 +7,7 @@ ghost use Rattle.sstable_blocks.specs.TableKinds.{AddsBlock};
 ghost use Rattle.sst_merge.specs.Tables.{IsApart, IsTableOf, MayNotAdd, MayNotWrite};
 ghost use Rattle.sst_merge.specs.Tables.{TakesBlock, block_len, capped, entries_in};
 
-use crate::block_len::form_len;
+use crate::block_len::{form_len, next_phase};
 use crate::merge::Head;
 use crate::ranked::Ranked;
 use crate::source::Source;
@@ -46,12 +46,18 @@ fn fill_block<T: Ranked + AsEntry + Drop, I: Source<T>>(
         (λ len. len ≡ capped (block_len interval (map T.entry block.new.items))) }
 {
     let mut len = 0usize;
+    let mut phase = 0u8;
     while block.is_empty() || len < size {
-        let Some(entry) = source.take(alloc)? else {
-            return Ok(len);
-        };
-        len = len.saturating_add(form_len(block, &entry, interval));
-        block.push(entry)?;
+        // (what a `?` passes on is copied)
+        match source.take(alloc) {
+            Ok(Some(entry)) => {
+                len = len.saturating_add(form_len(block, &entry, phase, interval));
+                block.push(entry)?;
+            }
+            Ok(None) => return Ok(len),
+            Err(error) => return Err(error),
+        }
+        phase = next_phase(phase, interval);
     }
     Ok(len)
 }

@@ -1,7 +1,7 @@
 -- Numbers of first bytes: of joined strings, and of twice as many bytes.
-use Rattle.std.proofs.Common.{◌≡◌, ℕ, zero, suc, ◌+◌, ◌-◌, ◌*◌, ◌/◌, ◌^◌, ◌<◌, ◌≤◌, List, [], ◌∷◌, ◌++◌, length, drop, arith, sym, slice_index, ◌∙◌, ap, min}
+use Rattle.std.proofs.Common.{◌≡◌, ℕ, zero, suc, ◌+◌, ◌-◌, ◌*◌, ◌/◌, ◌%◌, ◌^◌, ◌<◌, ◌≤◌, List, [], ◌∷◌, ◌++◌, length, drop, length-drop, subst, arith, sym, slice_index, ◌∙◌, ap, min}
 use Rattle.std.proofs.Math.Nat.{pow-succ', div-div-eq-div-mul}
-use Rattle.std.proofs.lemmas.List.{get_or-drop}
+use Rattle.std.proofs.lemmas.List.{drop-append-le, drop-drop, get_or-drop, get_or_past}
 use Rattle.std.proofs.Math.Seq.{drop-append-add}
 use Rattle.byteorder.specs.Endian.{big_number, big_from}
 use Rattle.byteorder.specs.Numbers.{big_from-lt, big_from-append}
@@ -93,3 +93,46 @@ pub bytes_joined : (p r : List ℕ) → IsBytes p → IsBytes r → IsBytes (p +
 bytes_joined [] r b w i = w i
 bytes_joined (x ∷ xs) r b w zero = b 0
 bytes_joined (x ∷ xs) r b w (suc i) = bytes_joined xs r (λ j. b (suc j)) w i
+
+-- The front of the last bytes of 8: the front of all, moved to the left by those before them.
+moved : (w : List ℕ) (p k : ℕ) → slice_index (drop p w) k ≡ slice_index w (p + k)
+moved w p k = get_or-drop p w k 0
+
+past : (w : List ℕ) → length w ≡ 8 → (i : ℕ) → 8 ≤ i → slice_index w i ≡ 0
+past w l i h = get_or_past w i 0 (omega (arith, l, h))
+
+pub front_last : (w : List ℕ) (more : ℕ) → IsBytes w → length w ≡ 8 → more < 8 → front w * 2 ^ (8 * (7 - more)) % 2 ^ 64 * 256 % 2 ^ 64 ≡ front (drop (8 - more) w)
+unfolding front
+front_last w zero b l h = omega (arith, b 0, b 1, b 2, b 3, b 4, b 5, b 6, b 7, moved w 8 0, moved w 8 1, moved w 8 2, moved w 8 3, moved w 8 4, moved w 8 5, moved w 8 6, moved w 8 7, past w l 8 (omega arith), past w l 9 (omega arith), past w l 10 (omega arith), past w l 11 (omega arith), past w l 12 (omega arith), past w l 13 (omega arith), past w l 14 (omega arith), past w l 15 (omega arith))
+front_last w (suc zero) b l h = omega (arith, b 0, b 1, b 2, b 3, b 4, b 5, b 6, b 7, moved w 7 0, moved w 7 1, moved w 7 2, moved w 7 3, moved w 7 4, moved w 7 5, moved w 7 6, moved w 7 7, past w l 8 (omega arith), past w l 9 (omega arith), past w l 10 (omega arith), past w l 11 (omega arith), past w l 12 (omega arith), past w l 13 (omega arith), past w l 14 (omega arith))
+front_last w (suc (suc zero)) b l h = omega (arith, b 0, b 1, b 2, b 3, b 4, b 5, b 6, b 7, moved w 6 0, moved w 6 1, moved w 6 2, moved w 6 3, moved w 6 4, moved w 6 5, moved w 6 6, moved w 6 7, past w l 8 (omega arith), past w l 9 (omega arith), past w l 10 (omega arith), past w l 11 (omega arith), past w l 12 (omega arith), past w l 13 (omega arith))
+front_last w (suc (suc (suc zero))) b l h = omega (arith, b 0, b 1, b 2, b 3, b 4, b 5, b 6, b 7, moved w 5 0, moved w 5 1, moved w 5 2, moved w 5 3, moved w 5 4, moved w 5 5, moved w 5 6, moved w 5 7, past w l 8 (omega arith), past w l 9 (omega arith), past w l 10 (omega arith), past w l 11 (omega arith), past w l 12 (omega arith))
+front_last w (suc (suc (suc (suc zero)))) b l h = omega (arith, b 0, b 1, b 2, b 3, b 4, b 5, b 6, b 7, moved w 4 0, moved w 4 1, moved w 4 2, moved w 4 3, moved w 4 4, moved w 4 5, moved w 4 6, moved w 4 7, past w l 8 (omega arith), past w l 9 (omega arith), past w l 10 (omega arith), past w l 11 (omega arith))
+front_last w (suc (suc (suc (suc (suc zero))))) b l h = omega (arith, b 0, b 1, b 2, b 3, b 4, b 5, b 6, b 7, moved w 3 0, moved w 3 1, moved w 3 2, moved w 3 3, moved w 3 4, moved w 3 5, moved w 3 6, moved w 3 7, past w l 8 (omega arith), past w l 9 (omega arith), past w l 10 (omega arith))
+front_last w (suc (suc (suc (suc (suc (suc zero)))))) b l h = omega (arith, b 0, b 1, b 2, b 3, b 4, b 5, b 6, b 7, moved w 2 0, moved w 2 1, moved w 2 2, moved w 2 3, moved w 2 4, moved w 2 5, moved w 2 6, moved w 2 7, past w l 8 (omega arith), past w l 9 (omega arith))
+front_last w (suc (suc (suc (suc (suc (suc (suc zero))))))) b l h = omega (arith, b 0, b 1, b 2, b 3, b 4, b 5, b 6, b 7, moved w 1 0, moved w 1 1, moved w 1 2, moved w 1 3, moved w 1 4, moved w 1 5, moved w 1 6, moved w 1 7, past w l 8 (omega arith))
+front_last w (suc (suc (suc (suc (suc (suc (suc (suc n)))))))) b l h = absurd (omega (arith, h))
+
+-- the same of the last bytes of a longer string
+pub front_of_rest : (xs last : List ℕ) (from n : ℕ) → IsBytes xs → 8 ≤ length xs → from ≤ length xs → length xs < from + 8 → last ≡ drop (length xs - 8) xs → n ≡ front last → n * 2 ^ (8 * (7 - (length xs - from))) % 2 ^ 64 * 256 % 2 ^ 64 ≡ front (drop from xs)
+front_of_rest xs last from n b long inside few is e =
+    let l : length last ≡ 8 = ap length is ∙ length-drop (length xs - 8) xs ∙ omega (arith, long) in
+    let more = length xs - from in
+    let bytes : IsBytes last = λ k. let h = b ((length xs - 8) + k) in let g = ap (λ ys. slice_index ys k) is ∙ moved xs (length xs - 8) k in omega (arith, h, g) in
+    let on : (length xs - 8) + (8 - more) ≡ from = omega (arith, long, inside, few) in
+    let cut : drop (8 - more) last ≡ drop from xs = ap (drop (8 - more)) is ∙ drop-drop (8 - more) (length xs - 8) xs ∙ ap (λ k. drop k xs) on in
+    ap (λ m. m * 2 ^ (8 * (7 - more)) % 2 ^ 64 * 256 % 2 ^ 64) e ∙ front_last last more bytes l (omega (arith, few, inside)) ∙ ap front cut
+
+-- what follows the first 8 bytes of two strings of which the first is longer
+pub between : (p r : List ℕ) → 8 ≤ length p → drop 8 (p ++ r) ≡ drop 8 p ++ r
+between p r h = drop-append-le 8 p r h
+
+pub front_of_both : (p r : List ℕ) (a b : ℕ) → IsBytes r → 8 ≤ length p → length p < 16 → a ≡ front (drop 8 p) → b ≡ front r → a + b / 2 ^ (8 * (length p - 8)) ≡ front (drop 8 (p ++ r))
+front_of_both p r a b w long short e f =
+    let n : length (drop 8 p) ≡ length p - 8 = length-drop 8 p in
+    ap (λ k. a + b / 2 ^ (8 * k)) (sym n) ∙ front_joined (drop 8 p) r a b w (omega (arith, n, short, long)) e f ∙ ap front (sym (between p r long))
+
+pub front_of_longer : (p r rest : List ℕ) (n : ℕ) → 16 ≤ length p → rest ≡ drop 8 p → n ≡ front rest → n ≡ front (drop 8 (p ++ r))
+front_of_longer p r rest n long is e =
+    let l : length (drop 8 p) ≡ length p - 8 = length-drop 8 p in
+    e ∙ ap front is ∙ front_of_long (drop 8 p) r (omega (arith, l, long)) ∙ ap front (sym (between p r (omega (arith, long))))

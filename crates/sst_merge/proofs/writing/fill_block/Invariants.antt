@@ -1,4 +1,4 @@
-use Rattle.std.proofs.Common.{◌≡◌, ◌+◌, ◌≤◌, length, map}
+use Rattle.std.proofs.Common.{◌≡◌, ◌+◌, ◌%◌, ◌<◌, ◌≤◌, length, map}
 use Rattle.sst_merge.specs.SizeLaws.{IsBelow}
 use Rattle.sst_merge.specs.Sources.{IsTaken, MeetsNoMore}
 use Rattle.sst_merge.specs.Tables.{capped, block_len}
@@ -9,6 +9,7 @@ invariant-loop-alloc g l = record {
   taken : IsTaken l.fn.source.list l.block.items l.source.list;
   most : l.source.most + length l.block.items ≤ l.fn.source.most;
   len : l.len ≡ capped (block_len l.interval (map g.T.AsEntry.entry l.block.items));
+  phase : (l.phase ≡ length l.block.items % l.interval) × (l.phase < l.interval);
   below : IsBelow l.interval l.size (map g.T.AsEntry.entry l.block.items);
   ended : l.source.ended ≡ l.fn.source.ended;
   no_more : MeetsNoMore l.fn.source l.source;

@@ -13,15 +13,15 @@ returns-in-Ok-clause-first g c =
     let heads = c.self.inside.heads.items in
     let first = c.first_of-first.result in
     let p : IsPick cmp heads first = subst (λ ls. IsPick cmp ls first) c.deref-2.ensures.value c.first_of-first.ensures.first in
-    taken_merge cmp _ _ heads first c.index_mut.result.now c.take.new.self _ c.in-Ok.taken c.self.view_is p c.index_mut.ensures.value c.in-Ok.ensures.first
+    taken_merge cmp _ _ heads first c.index_mut.result.now c.take_next.new.self _ c.in-Ok.taken c.self.view_is p c.index_mut.ensures.value c.in-Ok.ensures.first
 
 pub invariant_of-self-in-Ok : goal.invariant_of-self-in-Ok
 invariant_of-self-in-Ok g c = λ some.
-    still_tournament g.T.Ranked.cmp g.T.Ranked.ordered c.self.inside.heads.items c.deref-2.result.now c.first_of-first.new.places.items _ _ c.first_of-first.result c.take.new.self c.deref-2.ensures.value c.first_of-first.ensures.fresh (c.len.ensures ∙ sym c.deref-2.ensures.len) c.first_of-first.ensures.first.inside c.first_of-first.ensures.kept
+    still_tournament g.T.Ranked.cmp g.T.Ranked.ordered c.self.inside.heads.items c.deref-2.result.now c.first_of-first.new.places.items _ _ c.first_of-first.result c.take_next.new.self c.deref-2.ensures.value c.first_of-first.ensures.fresh (c.len.ensures ∙ sym c.deref-2.ensures.len) c.first_of-first.ensures.first.inside c.first_of-first.ensures.kept
 
 pub invariant_of-self-in-Err : goal.invariant_of-self-in-Err
 invariant_of-self-in-Err g c = λ some.
-    still_tournament g.T.Ranked.cmp g.T.Ranked.ordered c.self.inside.heads.items c.deref-2.result.now c.first_of-first.new.places.items _ _ c.first_of-first.result c.take.new.self c.deref-2.ensures.value c.first_of-first.ensures.fresh (c.len.ensures ∙ sym c.deref-2.ensures.len) c.first_of-first.ensures.first.inside c.first_of-first.ensures.kept
+    still_tournament g.T.Ranked.cmp g.T.Ranked.ordered c.self.inside.heads.items c.deref-2.result.now c.first_of-first.new.places.items _ _ c.first_of-first.result c.take_next.new.self c.deref-2.ensures.value c.first_of-first.ensures.fresh (c.len.ensures ∙ sym c.deref-2.ensures.len) c.first_of-first.ensures.first.inside c.first_of-first.ensures.kept
 
 pub returns-in-Ok-clause-no_more : goal.returns-in-Ok-clause-no_more
 returns-in-Ok-clause-no_more g c =
@@ -29,7 +29,7 @@ returns-in-Ok-clause-no_more g c =
     let heads = c.self.inside.heads.items in
     let first = c.first_of-first.result in
     let p : IsPick cmp heads first = subst (λ ls. IsPick cmp ls first) c.deref-2.ensures.value c.first_of-first.ensures.first in
-    merge_no_more cmp _ _ heads first c.index_mut.result.now c.take.new.self c.args.self.now c.self.view_is (c.keep_error.ensures ∙ ap result_err c.in_ok-ready.was) p c.index_mut.ensures.value c.in-Ok.ensures.no_more
+    merge_no_more cmp _ _ heads first c.index_mut.result.now c.take_next.new.self c.args.self.now c.self.view_is (c.keep_error.ensures ∙ ap result_err c.in_ok-ready.was) p c.index_mut.ensures.value c.in-Ok.ensures.no_more
 
 pub returns-in-Err-clause-cause : goal.returns-in-Err-clause-cause
 returns-in-Err-clause-cause g c =
