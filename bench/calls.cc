@@ -41,7 +41,7 @@ void Must(uint32_t status, const char* what) {
 
 uint64_t Encode(const std::vector<sst_entry>& given, std::string* out) {
   size_t len = 0;
-  Must(sst_data_block_encode(given.data(), given.size(), kInterval, 0, 1,
+  Must(sst_data_block_encode(given.data(), given.size(), kInterval, 0, 1, SST_XXH3,
                              reinterpret_cast<uint8_t*>(out->data()), out->size(), &len),
        "encode");
   return len;
@@ -54,7 +54,7 @@ uint64_t Find(const std::string& block, const std::string& needles, size_t key_l
     for (size_t at = 0; at < needles.size(); at += key_len) {
       sst_place place;
       const uint32_t status =
-          sst_data_block_find(At(block), block.size(), At(needles) + at, key_len, UINT64_MAX, &place);
+          sst_data_block_find(At(block), block.size(), SST_XXH3, At(needles) + at, key_len, UINT64_MAX, &place);
       sum += status == SST_OK ? place.value_offset : 1;
     }
   }
@@ -72,7 +72,7 @@ uint64_t FindInCopy(const std::string& block, const std::string& needles, size_t
       memcpy(copy, block.data(), block.size());
       sst_place place;
       const uint32_t status =
-          sst_data_block_find(copy, block.size(), At(needles) + at, key_len, UINT64_MAX, &place);
+          sst_data_block_find(copy, block.size(), SST_XXH3, At(needles) + at, key_len, UINT64_MAX, &place);
       sum += status == SST_OK ? place.value_offset : 1;
       free(copy);
     }
@@ -92,7 +92,7 @@ uint64_t Refuse(std::string* out, uint64_t times) {
   uint64_t sum = 0;
   for (; times > 0; times--) {
     size_t len = 0;
-    sum += sst_frame_write(At(*out), out->size(), 9, reinterpret_cast<uint8_t*>(out->data()), 0, &len);
+    sum += sst_frame_write(At(*out), out->size(), 9, SST_XXH3, reinterpret_cast<uint8_t*>(out->data()), 0, &len);
   }
   return sum;
 }

@@ -48,28 +48,31 @@ struct Bytes {
 
 const OK: u32 = 0;
 const NOT_FOUND: u32 = 16;
+const XXH3: u32 = 0;
 
 unsafe extern "C" {
     fn sst_data_block_encode(
-        entries: *const Entry, count: usize, interval: u8, num: u32, den: u32, out: *mut u8, cap: usize,
-        len: *mut usize,
+        entries: *const Entry, count: usize, interval: u8, num: u32, den: u32, hash: u32, out: *mut u8,
+        cap: usize, len: *mut usize,
     ) -> u32;
-    fn sst_data_block_check(payload: *const u8, len: usize, count: *mut usize) -> u32;
+    fn sst_data_block_check(payload: *const u8, len: usize, hash: u32, count: *mut usize) -> u32;
     fn sst_data_block_find(
-        payload: *const u8, len: usize, key: *const u8, key_len: usize, below: u64, place: *mut Place,
+        payload: *const u8, len: usize, hash: u32, key: *const u8, key_len: usize, below: u64, place: *mut Place,
     ) -> u32;
     fn sst_index_block_encode(
         handles: *const KeyedHandle, count: usize, interval: u8, out: *mut u8, cap: usize, len: *mut usize,
     ) -> u32;
     fn sst_index_block_check(payload: *const u8, len: usize, count: *mut usize) -> u32;
     fn sst_filter_build(
-        keys: *const Bytes, count: usize, bits: u32, out: *mut u8, cap: usize, len: *mut usize,
+        keys: *const Bytes, count: usize, bits: u32, hash: u32, out: *mut u8, cap: usize, len: *mut usize,
     ) -> u32;
-    fn sst_filter_may_contain(payload: *const u8, len: usize, key: *const u8, key_len: usize) -> u32;
+    fn sst_filter_may_contain(payload: *const u8, len: usize, hash: u32, key: *const u8, key_len: usize) -> u32;
     fn sst_frame_write(
-        payload: *const u8, len: usize, block_type: u8, out: *mut u8, cap: usize, out_len: *mut usize,
+        payload: *const u8, len: usize, block_type: u8, hash: u32, out: *mut u8, cap: usize, out_len: *mut usize,
     ) -> u32;
-    fn sst_frame_check(bytes: *const u8, len: usize, block_type: *mut u8, payload_len: *mut usize) -> u32;
+    fn sst_frame_check(
+        bytes: *const u8, len: usize, hash: u32, block_type: *mut u8, payload_len: *mut usize,
+    ) -> u32;
 }
 
 /// splitmix64.
@@ -127,7 +130,7 @@ fn frame(payload: &[u8], block_type: BlockType) -> Block {
     let mut theirs = vec![];
     Block::write_into(&mut theirs, payload, block_type, CompressionType::None).expect("writes");
     let ours = written(|out, cap, len| unsafe {
-        sst_frame_write(payload.as_ptr(), payload.len(), number, out, cap, len)
+        sst_frame_write(payload.as_ptr(), payload.len(), number, XXH3, out, cap, len)
     });
     assert!(ours == theirs, "frames differ");
     if let Some(path) = std::env::var_os("FRAMES") {
@@ -135,7 +138,7 @@ fn frame(payload: &[u8], block_type: BlockType) -> Block {
         file.and_then(|mut file| file.write_all(&theirs)).expect("keeps the frame");
     }
     let (mut found, mut len) = (9, 0);
-    assert_eq!(unsafe { sst_frame_check(theirs.as_ptr(), theirs.len(), &mut found, &mut len) }, OK);
+    assert_eq!(unsafe { sst_frame_check(theirs.as_ptr(), theirs.len(), XXH3, &mut found, &mut len) }, OK);
     assert_eq!((found, len), (number, payload.len()));
     let block = Block::from_reader(&mut ours.as_slice(), CompressionType::None).expect("reads");
     assert!(block.header.block_type == block_type && *block.data == *payload, "another block");
@@ -154,7 +157,7 @@ fn read(block: &DataBlock, payload: &[u8], key: &[u8], below: SeqNo) {
     let theirs = block.point_read(key, below).map(|entry| (entry.key.seqno, entry.value.to_vec()));
     let mut place = Place::default();
     let status = unsafe {
-        sst_data_block_find(payload.as_ptr(), payload.len(), key.as_ptr(), key.len(), below, &mut place)
+        sst_data_block_find(payload.as_ptr(), payload.len(), XXH3, key.as_ptr(), key.len(), below, &mut place)
     };
     let ours = (status == OK)
         .then(|| (place.seqno, payload[place.value_offset..][..place.value_len].to_vec()));
@@ -177,10 +180,10 @@ fn data_block(random: &mut Random, list: &[InternalValue]) -> usize {
     }).collect();
     let theirs = DataBlock::encode_into_vec(list, interval, num as f32 / den as f32).expect("encodes");
     let ours = written(|out, cap, len| unsafe {
-        sst_data_block_encode(given.as_ptr(), given.len(), interval, num, den, out, cap, len)
+        sst_data_block_encode(given.as_ptr(), given.len(), interval, num, den, XXH3, out, cap, len)
     });
     assert!(ours == theirs, "data blocks differ: {} entries, interval {interval}, {num}/{den}", list.len());
-    let count = checked(|count| unsafe { sst_data_block_check(theirs.as_ptr(), theirs.len(), count) });
+    let count = checked(|count| unsafe { sst_data_block_check(theirs.as_ptr(), theirs.len(), XXH3, count) });
     assert_eq!(count, list.len());
     let block = DataBlock::new(frame(&ours, BlockType::Data));
     let items: Vec<_> = block.iter().map(|item| item.materialize(block.as_slice())).collect();
@@ -238,7 +241,7 @@ fn filter(random: &mut Random, list: &[InternalValue]) -> usize {
     }
     let theirs = builder.build();
     let ours = written(|out, cap, len| unsafe {
-        sst_filter_build(given.as_ptr(), given.len(), bits, out, cap, len)
+        sst_filter_build(given.as_ptr(), given.len(), bits, XXH3, out, cap, len)
     });
     assert!(ours == theirs, "filters differ: {} keys, {bits} bits", list.len());
     let block = frame(&ours, BlockType::Filter);
@@ -247,7 +250,7 @@ fn filter(random: &mut Random, list: &[InternalValue]) -> usize {
     keys.extend((0..20).map(|_| random.bytes(9, 256)));
     for (number, key) in keys.iter().enumerate() {
         let status = unsafe {
-            sst_filter_may_contain(theirs.as_ptr(), theirs.len(), key.as_ptr(), key.len())
+            sst_filter_may_contain(theirs.as_ptr(), theirs.len(), XXH3, key.as_ptr(), key.len())
         };
         assert_eq!(reader.contains(key), status == OK);
         assert!(status == OK || number >= list.len());

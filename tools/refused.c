@@ -63,11 +63,11 @@ static void fill(void) {
     keys[1] = (struct sst_bytes){key_b, key_len};
 }
 
-static const struct sst_run_config config = {1, 1, 10, 2, 2};
+static const struct sst_run_config config = {1, 1, 10, 2, 2, SST_POLY31};
 static const size_t cuts[1] = {2};
 
 static uint32_t encode(uint8_t *to, size_t *len) {
-    return sst_data_block_encode(entries, 3, 2, 1, 1, to, sizeof out, len);
+    return sst_data_block_encode(entries, 3, 2, 1, 1, SST_XXH3, to, sizeof out, len);
 }
 
 static uint32_t write_run(uint8_t *to, size_t *len, struct sst_run_handles *at) {
@@ -81,8 +81,8 @@ static int entries_in(int is_run) {
         const struct sst_entry *e = &entries[i];
         struct sst_place at = {0};
         uint32_t status =
-            is_run ? sst_run_get(out, out_len, &found, e->key, e->key_len, e->seqno + 1, &at)
-                   : sst_data_block_find(out, out_len, e->key, e->key_len, e->seqno + 1, &at);
+            is_run ? sst_run_get(out, out_len, &found, SST_POLY31, e->key, e->key_len, e->seqno + 1, &at)
+                   : sst_data_block_find(out, out_len, SST_XXH3, e->key, e->key_len, e->seqno + 1, &at);
         is_found += status == SST_OK && at.seqno == e->seqno;
     }
     return is_found;
@@ -95,7 +95,7 @@ static uint32_t perform(const char *operation, int *is_found) {
         status = encode(out, &out_len);
         *is_found = status == SST_OK ? entries_in(0) : 0;
     } else if (strcmp(operation, "c_data_block_check") == 0) {
-        status = sst_data_block_check(given, given_len, &count);
+        status = sst_data_block_check(given, given_len, SST_XXH3, &count);
         *is_found = (int)count;
     } else if (strcmp(operation, "c_index_block_encode") == 0) {
         struct sst_handle at = {0, 0};
@@ -103,14 +103,14 @@ static uint32_t perform(const char *operation, int *is_found) {
         if (status == SST_OK && sst_index_block_find(out, out_len, key_b, key_len, 9, &at) == SST_OK)
             *is_found = (int)at.offset;
     } else if (strcmp(operation, "c_filter_build") == 0) {
-        status = sst_filter_build(keys, 2, 10, out, sizeof out, &out_len);
+        status = sst_filter_build(keys, 2, 10, SST_POLY31, out, sizeof out, &out_len);
         for (int i = 0; status == SST_OK && i < 2; i++)
-            *is_found += sst_filter_may_contain(out, out_len, keys[i].data, keys[i].len) == SST_OK;
+            *is_found += sst_filter_may_contain(out, out_len, SST_POLY31, keys[i].data, keys[i].len) == SST_OK;
     } else if (strcmp(operation, "c_frame_write") == 0) {
-        status = sst_frame_write(key_a, key_len, 0, out, sizeof out, &out_len);
+        status = sst_frame_write(key_a, key_len, 0, SST_XXH3, out, sizeof out, &out_len);
         *is_found = status == SST_OK && out_len == 33 + key_len && memcmp(out + 33, key_a, key_len) == 0;
     } else if (strcmp(operation, "c_frame_check") == 0) {
-        status = sst_frame_check(given, given_len, &block_type, &count);
+        status = sst_frame_check(given, given_len, SST_XXH3, &block_type, &count);
         *is_found = (int)count;
     } else if (strcmp(operation, "c_run_write") == 0) {
         status = write_run(out, &out_len, &found);
@@ -123,10 +123,10 @@ static uint32_t perform(const char *operation, int *is_found) {
         status = sst_run_end_write(handles, 2, given_hashes, 2, &config, out, sizeof out, &out_len, &found);
         *is_found = status == SST_OK && found.index_offset == 20 && found.filter_offset + found.filter_size == 20 + out_len;
     } else if (strcmp(operation, "c_run_check_at") == 0) {
-        status = sst_run_check_at(given, given_len, &frames, &summary, &end);
+        status = sst_run_check_at(given, given_len, &frames, SST_POLY31, &summary, &end);
         *is_found = (int)summary.entries;
     } else if (strcmp(operation, "c_run_check") == 0) {
-        status = sst_run_check(given, given_len, &frames, &summary);
+        status = sst_run_check(given, given_len, &frames, SST_POLY31, &summary);
         *is_found = (int)summary.entries;
     }
     return status;
@@ -137,7 +137,7 @@ static uint32_t set_up(const char *operation) {
     if (strcmp(operation, "c_data_block_check") == 0)
         return encode(given, &given_len);
     if (strcmp(operation, "c_frame_check") == 0)
-        return sst_frame_write(key_a, key_len, 0, given, sizeof given, &given_len);
+        return sst_frame_write(key_a, key_len, 0, SST_XXH3, given, sizeof given, &given_len);
     if (strncmp(operation, "c_run_check", 11) == 0)
         return write_run(given, &given_len, &frames);
     return SST_OK;

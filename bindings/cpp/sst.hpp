@@ -4,7 +4,10 @@
        if (auto entry = table.get("ann")) use(entry->value);
        for (auto at = table.lower_bound("a"); at != table.end() && at->compare("b") < 0; ++at) use(*at);
 
-   What is lent has to stay where it is as long as tables, iterators and entries over it are used. A table
+   Tables are by the hash function SST_XXH3, or by the one that is given: to check() and trusted(), and to write()
+   and a writer in their configuration.
+
+   What is borrowed has to stay where it is as long as tables, iterators and entries over it are used. A table
    may be read from any number of threads. What the calls behind this header do is proved; this header is
    tested. */
 #pragma once
@@ -25,10 +28,10 @@
 
 namespace sst {
 
-/* Bytes that are lent, from a container of bytes or from text. */
+/* Borrowed bytes, of a container of bytes or of text. */
 struct bytes : std::span<const uint8_t> {
     using std::span<const uint8_t>::span;
-    bytes(std::span<const uint8_t> lent) : span(lent) {}
+    bytes(std::span<const uint8_t> borrowed) : span(borrowed) {}
     bytes(std::string_view text) : span(reinterpret_cast<const uint8_t *>(text.data()), text.size()) {}
     bytes(const std::string &text) : bytes(std::string_view(text)) {}
     bytes(const char *text) : bytes(std::string_view(text)) {}
@@ -45,7 +48,7 @@ struct error : std::runtime_error {
     std::optional<sst_check_end> end; /* where a check of a table ended */
 };
 
-/* An entry of a table, whose bytes are lent. Its key is the prefix and then the rest. */
+/* An entry of a table, whose bytes are borrowed. Its key is the prefix and then the rest. */
 struct entry {
     bytes prefix, rest, value;
     uint64_t seqno;
@@ -64,23 +67,25 @@ struct entry {
     }
 };
 
-/* A table file over bytes that are lent. */
+/* A table file over borrowed bytes. */
 class table {
   public:
-    /* Checks all bytes of a file. Throws error with what the check met first, and where it ended. */
-    static table check(bytes file) {
-        table found(file);
+    /* Checks all bytes of a file that was written by a hash function. Throws error with what the check met first,
+       and where it ended. */
+    static table check(bytes file, sst_hash hash = SST_XXH3) {
+        table found(file, hash);
         sst_check_end end;
-        if (uint32_t status =
-                sst_run_check_at(found.run_.lent(), found.run_.size(), &found.handles_, &found.summary_, &end))
-            throw error(status, status == SST_MEMORY ? std::nullopt : std::optional(end));
+        uint32_t status = sst_run_check_at(found.run_.lent(), found.run_.size(), &found.handles_, hash,
+                                           &found.summary_, &end);
+        if (status == SST_MEMORY || status == SST_BAD_ARGUMENT) throw error(status);
+        if (status) throw error(status, end);
         return found;
     }
 
-    /* Takes a file that was checked before, or that the library wrote, and tests nothing but its length. Reads
-       of other bytes are undefined. Its summary has the number of blocks alone. */
-    static table trusted(bytes file) {
-        table found(file);
+    /* Takes a file that was checked before, or that the library wrote, by this hash function, and tests nothing
+       but its length. Reads of other bytes are undefined. Its summary has the number of blocks alone. */
+    static table trusted(bytes file, sst_hash hash = SST_XXH3) {
+        table found(file, hash);
         found.summary_ = {found.window({}, {}).end_block + 1, 0, 0, 0};
         return found;
     }
@@ -91,7 +96,7 @@ class table {
     std::optional<entry> get(bytes key, uint64_t below = UINT64_MAX) const {
         sst_place at;
         uint32_t status =
-            sst_run_get(run_.data(), run_.size(), &handles_, key.lent(), key.size(), below, &at);
+            sst_run_get(run_.data(), run_.size(), &handles_, hash_, key.lent(), key.size(), below, &at);
         return status == SST_OK ? std::optional(entry_at(at)) : std::nullopt;
     }
 
@@ -217,7 +222,7 @@ class table {
     }
 
   private:
-    explicit table(bytes file) {
+    table(bytes file, sst_hash hash) : hash_(hash) {
         if (uint32_t status = sst_footer_read(file.lent(), file.size(), &handles_)) throw error(status);
         run_ = bytes(file.first(file.size() - 24));
     }
@@ -261,10 +266,11 @@ class table {
 
     bytes run_;
     sst_run_handles handles_{};
+    sst_hash hash_;
     sst_summary summary_{};
 };
 
-/* An entry to be written, whose bytes are lent. */
+/* An entry to be written, whose bytes are borrowed. */
 inline sst_entry given(bytes key, uint64_t seqno, bytes value, sst_value_type type = SST_VALUE) {
     return {key.lent(), key.size(), value.lent(), value.size(), seqno, static_cast<uint8_t>(type)};
 }
@@ -272,7 +278,7 @@ inline sst_entry given(bytes key, uint64_t seqno, bytes value, sst_value_type ty
 /* Writes entries as a table file: at least one, by key rising and then by sequence number falling, in blocks
    that end with the entry with which keys and values reach so many bytes. Throws error. */
 inline std::vector<uint8_t> write(std::span<const sst_entry> entries, size_t block_size = 4096,
-                                  const sst_run_config &config = {0, 1, 10, 16, 1}) {
+                                  const sst_run_config &config = {0, 1, 10, 16, 1, SST_XXH3}) {
     std::vector<size_t> cuts;
     size_t held = 0, all = 4096;
     for (size_t i = 0; i < entries.size(); i++) {
@@ -307,7 +313,7 @@ inline std::vector<uint8_t> write(std::span<const sst_entry> entries, size_t blo
        writer.finish(); */
 template <std::invocable<bytes> Sink> class writer {
   public:
-    explicit writer(Sink sink, size_t block_size = 4096, const sst_run_config &config = {0, 1, 10, 16, 1})
+    explicit writer(Sink sink, size_t block_size = 4096, const sst_run_config &config = {0, 1, 10, 16, 1, SST_XXH3})
         : sink_(std::move(sink)), block_size_(block_size), config_(config), out_(block_size + 4096) {}
 
     /* Adds an entry. Throws error: SST_OUT_OF_ORDER where it sorts before the one added last, SST_BAD_ARGUMENT

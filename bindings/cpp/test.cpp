@@ -67,15 +67,15 @@ void check_large() {
         std::snprintf(key, sizeof key, "user/%08zu", i / 2);
         rows.push_back({key, i % 2 ? 3u : 9u, SST_VALUE, std::string(i % 50, 'a' + i % 26)});
     }
-    for (sst_run_config config : {sst_run_config{0, 1, 10, 16, 1}, sst_run_config{3, 4, 0, 8, 4}}) {
+    for (sst_run_config config : {sst_run_config{0, 1, 10, 16, 1, SST_XXH3}, sst_run_config{3, 4, 0, 8, 4, SST_POLY31}}) {
         auto file = file_of(rows, 4096, config);
         demand(in_pieces(rows, 4096, config) == file, "100,000 entries in pieces are the same");
-        auto table = sst::table::check(sst::bytes(std::span<const uint8_t>(file)));
+        auto table = sst::table::check(sst::bytes(std::span<const uint8_t>(file)), static_cast<sst_hash>(config.hash));
         demand(table.summary().entries == rows.size(), "100,000 entries are counted");
         demand(std::ranges::equal(table, rows, is), "100,000 entries are read back");
     }
     std::vector<row> wide{{"a", 1, SST_VALUE, std::string(100000, 'x')}, {"b", 1, SST_VALUE, std::string(7, 'y')}};
-    demand(in_pieces(wide, 1, {0, 1, 10, 16, 1}) == file_of(wide, 1, {0, 1, 10, 16, 1}), "a long value is written");
+    demand(in_pieces(wide, 1, {0, 1, 10, 16, 1, SST_XXH3}) == file_of(wide, 1, {0, 1, 10, 16, 1, SST_XXH3}), "a long value is written");
     memory memory;
     sst::writer writer(memory.sink(), 1000);
     for (const row &row : rows) writer.add(row.key, row.seqno, row.value, row.type);
@@ -135,7 +135,7 @@ void check_table(const sst::table &table, const std::vector<row> &rows) {
 void check_one_block() {
     for (size_t count : {1, 63, 64, 65, 127, 128, 129, 1000}) {
         auto rows = rows_of(7, count);
-        auto file = file_of(rows, 1 << 20, {0, 1, 10, 16, 1});
+        auto file = file_of(rows, 1 << 20, {0, 1, 10, 16, 1, SST_XXH3});
         auto table = sst::table::check(sst::bytes(std::span<const uint8_t>(file)));
         demand(table.summary().blocks == 1, "all in one block");
         check_table(table, rows);
@@ -148,17 +148,21 @@ int main() {
     size_t tables = 0;
     for (unsigned seed = 0; seed < 40; seed++) {
         auto rows = rows_of(seed, 1 + seed * 10);
-        sst_run_config config{seed % 3, 2, seed % 2 * 10, static_cast<uint8_t>(1 + seed % 17), static_cast<uint8_t>(1 + seed % 3)};
+        sst_hash hash = seed / 2 % 2 ? SST_POLY31 : SST_XXH3, other = hash == SST_XXH3 ? SST_POLY31 : SST_XXH3;
+        sst_run_config config{seed % 3, 2, seed % 2 * 10, static_cast<uint8_t>(1 + seed % 17), static_cast<uint8_t>(1 + seed % 3),
+                              static_cast<uint16_t>(hash)};
         auto file = file_of(rows, seed % 3 ? 100 : 1, config);
         demand(in_pieces(rows, seed % 3 ? 100 : 1, config) == file, "a table in pieces is the same");
-        auto table = sst::table::check(sst::bytes(std::span<const uint8_t>(file)));
+        sst::bytes lent(std::span<const uint8_t>{file});
+        auto table = sst::table::check(lent, hash);
         demand(table.summary().entries == rows.size(), "the count of entries");
         check_table(table, rows);
-        check_table(sst::table::trusted(sst::bytes(std::span<const uint8_t>(file))), rows);
+        check_table(sst::table::trusted(lent, hash), rows);
+        demand(throws(SST_CHECKSUM_MISMATCH, [&] { sst::table::check(lent, other); }), "another hash function's checksums");
         for (size_t at : {size_t(0), file.size() / 2, file.size() - 25}) {
             file[at] ^= 1;
             try {
-                sst::table::check(sst::bytes(std::span<const uint8_t>(file)));
+                sst::table::check(lent, hash);
                 demand(false, "a changed byte is refused");
             } catch (const sst::error &met) {
                 demand(met.end && met.end->offset <= at && at < met.end->offset + met.end->size, "by its frame");
@@ -168,8 +172,9 @@ int main() {
         tables += 2;
     }
     for (auto bad : {std::vector<row>{}, {{"b", 1, SST_VALUE, ""}, {"a", 1, SST_VALUE, ""}}, {{"", 1, SST_VALUE, ""}}}) {
-        demand(throws(SST_BAD_ARGUMENT, [&] { file_of(bad, 1, {0, 1, 0, 1, 1}); }), "such entries are a bad argument");
+        demand(throws(SST_BAD_ARGUMENT, [&] { file_of(bad, 1, {0, 1, 0, 1, 1, SST_XXH3}); }), "such entries are a bad argument");
     }
+    demand(throws(SST_BAD_ARGUMENT, [] { file_of({{"a", 1, SST_VALUE, ""}}, 1, {0, 1, 0, 1, 1, 2}); }), "2 is no hash function");
     memory memory, empty;
     sst::writer writer(memory.sink(), 1), none(empty.sink());
     demand(throws(SST_BAD_ARGUMENT, [&] { none.finish(); }), "no entries are a bad argument");

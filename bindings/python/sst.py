@@ -6,6 +6,9 @@
         for entry in table.scan(b"a", b"b"):        # the entries of the keys from a up to b, in order
             print(entry.key, entry.seqno, entry.value)
 
+A table is by a hash function, by which it is checked and read: the Hash that a call is passed, XXH3 where it is
+passed none.
+
 The library is the file that the variable SST_LIBRARY names, or libsst.so beside this file, or what the
 system finds as `sst` (tools/c-library PREFIX puts both into PREFIX/lib). What the calls behind this module do is proved; this
 module is tested. A table may be read from any number of threads.
@@ -18,7 +21,13 @@ import os
 import typing
 
 MAX_SEQNO = 2**64 - 1
-VERSION = 3
+VERSION = 4
+
+
+class Hash(enum.IntEnum):
+    """The hash function of hash indexes, filter and checksums: XXH3 as lsm-tree has it, or the polynomial one."""
+    XXH3 = 0
+    POLY31 = 1
 
 
 class ValueType(enum.IntEnum):
@@ -83,7 +92,7 @@ class _Place(ctypes.Structure):
 
 class _Config(ctypes.Structure):
     _fields_ = [("num", ctypes.c_uint32), ("den", ctypes.c_uint32), ("bits_per_key", ctypes.c_uint32),
-                ("restart_interval", ctypes.c_uint8), ("index_interval", ctypes.c_uint8)]
+                ("restart_interval", ctypes.c_uint8), ("index_interval", ctypes.c_uint8), ("hash", ctypes.c_uint16)]
 
 
 class _Handles(ctypes.Structure):
@@ -124,8 +133,9 @@ def _load():
             ("sst_footer_read", ctypes.c_uint32, [address, size, handles]),
             ("sst_footer_write", ctypes.c_uint32, [handles, address, size, count]),
             ("sst_run_check_at", ctypes.c_uint32,
-             [address, size, handles, ctypes.POINTER(_Summary), ctypes.POINTER(_CheckEnd)]),
-            ("sst_run_get", ctypes.c_uint32, [address, size, handles, ctypes.c_char_p, size, ctypes.c_uint64, place]),
+             [address, size, handles, ctypes.c_uint32, ctypes.POINTER(_Summary), ctypes.POINTER(_CheckEnd)]),
+            ("sst_run_get", ctypes.c_uint32,
+             [address, size, handles, ctypes.c_uint32, ctypes.c_char_p, size, ctypes.c_uint64, place]),
             ("sst_run_range", None, [address, size, handles, ctypes.c_uint8, ctypes.c_char_p, size, ctypes.c_uint8,
                                      ctypes.c_char_p, size, ctypes.POINTER(_Window)]),
             ("sst_run_scan", ctypes.c_uint32, [address, size, handles, ctypes.POINTER(_Window), ctypes.c_uint8,
@@ -155,9 +165,10 @@ def _demand(status):
 class Table:
     """A table file in memory. To make one checks all its bytes, so reads need no checks."""
 
-    def __init__(self, data):
-        """Checks the bytes of a table file. Raises Error with what the check met first, and where it ended."""
-        self._data = data
+    def __init__(self, data, hash=Hash.XXH3):
+        """Checks the bytes of a table file by a hash function. Raises Error with what the check met first, and where
+        it ended."""
+        self._data, self._hash = data, Hash(hash)
         self._held = None if isinstance(data, bytes) else (ctypes.c_char * len(data)).from_buffer(data)
         self._at = (ctypes.cast(ctypes.c_char_p(data), ctypes.c_void_p).value if self._held is None
                     else ctypes.addressof(self._held))
@@ -165,17 +176,17 @@ class Table:
         _demand(_LIB.sst_footer_read(self._at, len(data), ctypes.byref(self._handles)))
         self._run = (self._at, len(data) - _FOOTER, ctypes.byref(self._handles))
         found, end = _Summary(), _CheckEnd()
-        if status := _LIB.sst_run_check_at(*self._run, ctypes.byref(found), ctypes.byref(end)):
+        if status := _LIB.sst_run_check_at(*self._run, self._hash, ctypes.byref(found), ctypes.byref(end)):
             raise Error(status, None if status == _MEMORY else CheckEnd(end.part, end.block, end.offset, end.size))
         self.summary = Summary(found.blocks, found.entries, found.least_seqno, found.greatest_seqno)
 
     @classmethod
-    def open(cls, path):
-        """Maps a table file into memory and checks it. Raises OSError or Error."""
+    def open(cls, path, hash=Hash.XXH3):
+        """Maps a table file into memory and checks it by a hash function. Raises OSError or Error."""
         with open(path, "rb") as file:
             if os.fstat(file.fileno()).st_size == 0:
-                return cls(b"")
-            return cls(mmap.mmap(file.fileno(), 0, access=mmap.ACCESS_COPY))
+                return cls(b"", hash)
+            return cls(mmap.mmap(file.fileno(), 0, access=mmap.ACCESS_COPY), hash)
 
     def close(self):
         """Gives a mapped file back. The table must not be used afterwards."""
@@ -202,7 +213,7 @@ class Table:
     def get(self, key, below=MAX_SEQNO):
         """The first entry of a key strictly below a sequence number, a tombstone too, or None."""
         at = _Place()
-        status = _LIB.sst_run_get(*self._run, key, len(key), below, ctypes.byref(at))
+        status = _LIB.sst_run_get(*self._run, self._hash, key, len(key), below, ctypes.byref(at))
         if status == _NOT_FOUND:
             return None
         _demand(status)
@@ -267,7 +278,8 @@ def _cuts(entries, block_size):
     return cuts
 
 
-def write(entries, block_size=4096, restart_interval=16, index_interval=1, bits_per_key=10, hash_ratio=(0, 1)):
+def write(entries, block_size=4096, restart_interval=16, index_interval=1, bits_per_key=10, hash_ratio=(0, 1),
+          hash=Hash.XXH3):
     """The bytes of the table file of entries: at least one, by key rising and then by sequence number
     falling. `bits_per_key` 0: no filter; `hash_ratio` (3, 4): three buckets of a block's hash index for
     four entries. Raises Error with BAD_ARGUMENT where the entries can't be written so."""
@@ -275,7 +287,7 @@ def write(entries, block_size=4096, restart_interval=16, index_interval=1, bits_
     given = _given(entries)
     cuts = _cuts(entries, block_size)
     given_cuts = (ctypes.c_size_t * len(cuts))(*cuts)
-    config = _Config(*hash_ratio, bits_per_key, restart_interval, index_interval)
+    config = _Config(*hash_ratio, bits_per_key, restart_interval, index_interval, Hash(hash))
     handles, need = _Handles(), ctypes.c_size_t()
     # What most tables need; a longer one says how much.
     out = bytearray(sum(len(e.key) + len(e.value) + 64 for e in entries) + 4096)
@@ -304,9 +316,9 @@ class Writer:
     """
 
     def __init__(self, file, block_size=4096, restart_interval=16, index_interval=1, bits_per_key=10,
-                 hash_ratio=(0, 1)):
+                 hash_ratio=(0, 1), hash=Hash.XXH3):
         self._file, self._block_size = file, block_size
-        self._config = _Config(*hash_ratio, bits_per_key, restart_interval, index_interval)
+        self._config = _Config(*hash_ratio, bits_per_key, restart_interval, index_interval, Hash(hash))
         self._entries, self._held, self._last = [], 0, None
         self._ends, self._hashes, self._length = [], bytearray(), 0
         self._out = bytearray(block_size + 4096)

@@ -6,9 +6,13 @@ import sys
 import tempfile
 import unittest
 
-sys.path.insert(0, os.path.dirname(os.path.abspath(__file__)))
+HERE = os.path.dirname(os.path.abspath(__file__))
+sys.path[:0] = [HERE, os.path.join(HERE, "..", "..", "tools", "model")]
+import entries as model_entries  # noqa: E402
+import hashes as model_hashes  # noqa: E402
+import runs as model_runs  # noqa: E402
 import sst  # noqa: E402
-from sst import Entry, ValueType  # noqa: E402
+from sst import Entry, Hash, ValueType  # noqa: E402
 
 FEW = [Entry(b"ab", 2, b"x"), Entry(b"ab", 1, b"", ValueType.TOMBSTONE), Entry(b"ac", 300, b"y")]
 
@@ -41,9 +45,10 @@ class Tables(unittest.TestCase):
     def test_random(self):
         for seed in range(40):
             entries = random_entries(seed, 1 + seed * 10)
-            table = sst.Table(sst.write(entries, block_size=[1, 100, 4096][seed % 3], restart_interval=1 + seed % 17,
-                                        index_interval=1 + seed % 3, bits_per_key=seed % 2 * 10,
-                                        hash_ratio=(seed % 3, 2)))
+            data = sst.write(entries, block_size=[1, 100, 4096][seed % 3], restart_interval=1 + seed % 17,
+                             index_interval=1 + seed % 3, bits_per_key=seed % 2 * 10, hash_ratio=(seed % 3, 2),
+                             hash=Hash(seed // 2 % 2))
+            table = sst.Table(data, hash=Hash(seed // 2 % 2))
             self.assertEqual(list(table), entries)
             self.assertEqual(list(reversed(table)), entries[::-1])
             self.assertEqual(len(table), len(entries))
@@ -64,7 +69,8 @@ class Tables(unittest.TestCase):
     def test_pieces(self):
         entries = [Entry(b"user/%08d" % (i // 2), 3 if i % 2 else 9, bytes([97 + i % 26]) * (i % 50))
                    for i in range(100_000)]
-        for form in ({}, {"bits_per_key": 0, "hash_ratio": (3, 4), "block_size": 1000, "index_interval": 4}):
+        for form in ({}, {"bits_per_key": 0, "hash_ratio": (3, 4), "block_size": 1000, "index_interval": 4},
+                     {"hash": Hash.POLY31}):
             file = io.BytesIO()
             writer = sst.Writer(file, **form)
             for entry in entries[:-1]:
@@ -73,7 +79,7 @@ class Tables(unittest.TestCase):
             writer.add(entries[-1])
             writer.finish()
             self.assertEqual(file.getvalue(), sst.write(entries, **form))
-            table = sst.Table(file.getvalue())
+            table = sst.Table(file.getvalue(), form.get("hash", Hash.XXH3))
             self.assertEqual(len(table), len(entries))
             self.assertEqual(list(table), entries)
 
@@ -126,13 +132,43 @@ class Tables(unittest.TestCase):
         with self.assertRaises(IndexError):
             sst.Table(whole).block(3)
 
+    def test_model(self):
+        for seed in range(30):
+            entries = random_entries(seed, 1 + seed * 8)
+            items = [model_entries.Entry(model_entries.TYPES[e.type], e.seqno, e.key, e.value) for e in entries]
+            size, interval, ratio = [1, 100, 4096][seed % 3], 1 + seed % 17, (seed % 3, 2)
+            form = model_runs.Form(interval, *ratio, seed % 2 * 10, 1 + seed % 3)
+            blocks = model_runs.blocks_of(items, sst._cuts(entries, size))
+            for hash, model in ((Hash.XXH3, model_hashes.Xxh3), (Hash.POLY31, model_hashes.Poly31)):
+                run, places = model_runs.write(model, blocks, form)
+                data = run + model_runs.footer_of(places)
+                ours = sst.write(entries, size, interval, form.index_interval, form.bits_per_key, ratio, hash)
+                self.assertEqual(ours, data)
+                self.assertEqual(list(sst.Table(data, hash)), entries)
+
+    def test_hash(self):
+        for hash, other in ((Hash.XXH3, Hash.POLY31), (Hash.POLY31, Hash.XXH3)):
+            data = sst.write(FEW, hash=hash)
+            self.assertEqual(list(sst.Table(data, hash=hash)), FEW)
+            with self.assertRaises(sst.Error) as met:
+                sst.Table(data, hash=other)
+            self.assertEqual((str(met.exception), met.exception.end.part), ("SST_CHECKSUM_MISMATCH", 2))
+        self.assertEqual(sst.write(FEW), sst.write(FEW, hash=Hash.XXH3))
+        for call in (lambda: sst.write(FEW, hash=2), lambda: sst.Table(sst.write(FEW), hash=65536),
+                     lambda: sst.Writer(io.BytesIO(), hash=65536)):
+            with self.assertRaises(ValueError):
+                call()
+
     def test_file(self):
         with tempfile.TemporaryDirectory() as room:
             path = os.path.join(room, "few.sst")
             with open(path, "wb") as file:
-                file.write(sst.write(FEW))
-            with sst.Table.open(path) as table:
+                file.write(sst.write(FEW, hash=Hash.POLY31))
+            with sst.Table.open(path, hash=Hash.POLY31) as table:
                 self.assertEqual(list(table), FEW)
+                self.assertEqual(table.get(b"ac"), FEW[2])
+            with self.assertRaises(sst.Error):
+                sst.Table.open(path)
             open(path, "wb").close()
             with self.assertRaises(sst.Error):
                 sst.Table.open(path)

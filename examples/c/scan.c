@@ -10,7 +10,7 @@
 static char keys[COUNT][16];
 static struct sst_entry entries[COUNT];
 static const size_t cuts[] = {1, 40, 56, 57, 200};
-static struct sst_run_config config = {0, 1, 10, 16, 3};
+static struct sst_run_config config = {0, 1, 10, 16, 3, SST_XXH3};
 static uint8_t *run;
 static size_t len;
 static struct sst_run_handles handles;
@@ -101,7 +101,7 @@ static void scan_block(void) {
     static uint8_t block[16384];
     static struct sst_place places[7];
     size_t block_len = 0, count = 0, lo = 0, hi = COUNT;
-    if (sst_data_block_encode(entries, COUNT, 16, 0, 1, block, sizeof block, &block_len) != SST_OK) return;
+    if (sst_data_block_encode(entries, COUNT, 16, 0, 1, SST_XXH3, block, sizeof block, &block_len) != SST_OK) return;
     struct sst_window window = {0, 0, 0, COUNT};
     for (size_t turn = 0; lo < hi; turn++) {
         uint8_t reverse = turn % 2;

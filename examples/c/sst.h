@@ -1,18 +1,23 @@
-/* The block layer of a log-structured storage engine, for C and C++: data and index blocks over bytes
-   that the caller lends. Link libsst.a or libsst.so (tools/c-library PREFIX makes them).
+/* The block layer of a log-structured storage engine, for C and C++: blocks, filters, frames and runs over
+   bytes of the caller, which are borrowed for the call. Link libsst.a or libsst.so (tools/c-library PREFIX
+   makes them).
 
    What a caller owes each call:
    - every pointer is valid for its length, aligned for its type, and never null, also with length 0;
    - what a call writes overlaps nothing else that it is given;
-   - nobody writes what is lent while a call runs;
+   - nobody writes what is borrowed while a call runs;
    - the calls that say "a data block" or "an index block" get only bytes that the check accepted, or
-     that the library wrote. What they do with other bytes is not stated.
+     that the library wrote, and the same for runs; those that take a hash function too, with the same
+     hash function. What they do with other bytes is not stated.
    The rest is proved: each call ends, stays within the bytes that it is given, and does what is said
    here for all arguments. A call keeps nothing and starts nothing, so any number of threads may call at
-   once. Offsets and lengths are in bytes. Checksums, hash index and filter hash by XXH3 with seed 0, as
-   lsm-tree 3.1.10 does: data blocks, index blocks, filters and frames are its own. Keys sort bytewise; a
-   block holds entries by key rising, then by sequence number falling. A read "below" a number takes
-   versions with a number strictly below. */
+   once. Offsets and lengths are in bytes. Keys sort bytewise; a block holds entries by key rising, then by
+   sequence number falling. A read "below" a number takes versions with a number strictly below.
+
+   Checksums, hash index and filter are by a hash function, enum sst_hash, which each call that hashes is
+   given; the others, for index blocks, footers, ranges and scans, take bytes of either. No byte says which it
+   was, so who reads has to know. With SST_XXH3 data blocks, index blocks, filters and frames are
+   those of lsm-tree 3.1.10. */
 #pragma once
 #include <stddef.h>
 #include <stdint.h>
@@ -22,9 +27,17 @@ extern "C" {
 
 /* The version of the calls that this header declares, which rises where a call or a struct changes its
    meaning or is removed; and that of the library that is linked. */
-#define SST_VERSION 3 /* 1 hashed by a polynomial; 2 listed runs by block indexes, and blocks whole, too, and
-                         wrote runs at once only */
+#define SST_VERSION 4 /* 1 hashed by a polynomial; 2 listed runs by block indexes, and blocks whole, too, and
+                         wrote runs at once only; 3 hashed by XXH3 alone: of its calls those took no `hash` that
+                         take one now, and sst_run_config had no member for it */
 uint32_t sst_version(void);
+
+/* The hash function of hash index, filter and checksums. Of any other number a call that takes one returns
+   SST_BAD_ARGUMENT, whatever its other arguments are, and writes nothing. */
+enum sst_hash {
+    SST_XXH3 = 0,  /* XXH3 with seed 0, of 64 and of 128 bits, which lsm-tree stores */
+    SST_POLY31 = 1 /* from 0, times 31 plus each byte in turn, modulo 2^64 and 2^128 */
+};
 
 /* What a call returns. 1 to 15 are the library's errors E1 to E15. */
 enum sst_status {
@@ -46,7 +59,7 @@ enum sst_status {
     SST_MEMORY = 15,        /* an allocation failed */
     SST_NOT_FOUND = 16,
     SST_BAD_ARGUMENT = 17,
-    SST_NO_ROOM = 18        /* the buffer is too short; the length that is needed is told */
+    SST_NO_ROOM = 18        /* the buffer is too short; the length that is needed is written */
 };
 
 /* The type of an entry. A tombstone of either kind has no value. */
@@ -97,25 +110,28 @@ struct sst_handle {
 };
 
 /* Encodes entries as a data block at the front of out: restart intervals of `interval` entries, and
-   num / den buckets of the hash index for each entry (0 and 1: none).
+   num / den buckets of the hash index for each entry (0 and 1: none), by a hash function.
    SST_OK: *out_len bytes of out are the block. SST_NO_ROOM: out_cap is less than *out_len, the length
    of the block. SST_BAD_ARGUMENT: exactly if the entries can't be encoded: there is none, one is not an
-   entry (lengths, type), they are out of order, or interval or den is 0. SST_TOO_LONG: only where the
-   block has 2^32 bytes or more. SST_MEMORY. But for SST_OK out is left, and but for SST_OK and
-   SST_NO_ROOM *out_len. Allocates: keys and values are copied into the block alone. */
+   entry (lengths, type), they are out of order, interval or den is 0, or hash is none of enum sst_hash.
+   SST_TOO_LONG: only where the block has 2^32 bytes or more. SST_MEMORY. But for SST_OK out is left, and but
+   for SST_OK and SST_NO_ROOM *out_len. Allocates: keys and values are copied into the block alone. */
 uint32_t sst_data_block_encode(const struct sst_entry *entries, size_t count, uint8_t interval,
-                               uint32_t num, uint32_t den, uint8_t *out, size_t out_cap,
+                               uint32_t num, uint32_t den, uint32_t hash, uint8_t *out, size_t out_cap,
                                size_t *out_len);
 
-/* Checks any bytes. SST_OK: exactly if they are a data block, of *count entries. SST_TOO_LONG: exactly
-   if len is 2^32 or more. Else the first of SST_TRUNCATED to SST_BAD_HASH_INDEX that fails, in this
-   order. SST_MEMORY: only where buckets are stored. But for SST_OK *count is left. */
-uint32_t sst_data_block_check(const uint8_t *payload, size_t len, size_t *count);
+/* Checks any bytes. SST_OK: exactly if they are a data block by this hash function, of *count entries.
+   SST_TOO_LONG: exactly if len is 2^32 or more. Else the first of SST_TRUNCATED to SST_BAD_HASH_INDEX that
+   fails, in this order: the last one where the buckets are not those of this hash function; without buckets a
+   data block is one by either. SST_MEMORY: only where buckets are stored. SST_BAD_ARGUMENT: exactly if hash is
+   none of enum sst_hash. But for SST_OK *count is left. */
+uint32_t sst_data_block_check(const uint8_t *payload, size_t len, uint32_t hash, size_t *count);
 
 /* Finds the first entry of a key below a sequence number in a data block, a tombstone too. SST_OK:
-   *place is where it is. SST_NOT_FOUND: there is none, and *place is left. Takes no memory. */
-uint32_t sst_data_block_find(const uint8_t *payload, size_t len, const uint8_t *key, size_t key_len,
-                             uint64_t below_seqno, struct sst_place *place);
+   *place is where it is. SST_NOT_FOUND: there is none. SST_BAD_ARGUMENT: exactly if hash is none of enum
+   sst_hash. But for SST_OK *place is left. Takes no memory. */
+uint32_t sst_data_block_find(const uint8_t *payload, size_t len, uint32_t hash, const uint8_t *key,
+                             size_t key_len, uint64_t below_seqno, struct sst_place *place);
 
 /* Encodes handles as an index block at the front of out, in restart intervals of `interval` handles. The
    codes are those of sst_data_block_encode; SST_BAD_ARGUMENT: exactly if there is no handle, an end key
@@ -140,40 +156,47 @@ struct sst_bytes {
     size_t len;
 };
 
-/* Builds a Bloom filter of keys at so many bits for each at the front of out. SST_OK: *out_len bytes of
-   out are its payload. SST_NO_ROOM: out_cap is less than *out_len. SST_BAD_ARGUMENT: exactly if there is
-   no key, no bit, or more than 34359737920 bits in all. SST_MEMORY. But for SST_OK out is left, and but
-   for SST_OK and SST_NO_ROOM *out_len. */
-uint32_t sst_filter_build(const struct sst_bytes *keys, size_t count, uint32_t bits_per_key, uint8_t *out,
-                          size_t out_cap, size_t *out_len);
+/* Builds a Bloom filter of keys at so many bits for each at the front of out, by a hash function. SST_OK:
+   *out_len bytes of out are its payload. SST_NO_ROOM: out_cap is less than *out_len. SST_BAD_ARGUMENT: exactly
+   if there is no key, no bit, or more than 34359737920 bits in all, or hash is none of enum sst_hash.
+   SST_MEMORY. But for SST_OK out is left, and but for SST_OK and SST_NO_ROOM *out_len. */
+uint32_t sst_filter_build(const struct sst_bytes *keys, size_t count, uint32_t bits_per_key, uint32_t hash,
+                          uint8_t *out, size_t out_cap, size_t *out_len);
 
 /* Asks the filter in any bytes about a key. SST_OK: the key may have been inserted; for each key that
-   was, that is the answer. SST_NOT_FOUND: it was not. Else the bytes are no filter, by the first that
-   fails of SST_TRUNCATED, SST_INVALID_HEADER, SST_INVALID_TAG, SST_BAD_FILTER. Takes no memory. */
-uint32_t sst_filter_may_contain(const uint8_t *payload, size_t len, const uint8_t *key, size_t key_len);
+   was, by this hash function, that is the answer. SST_NOT_FOUND: it was not. Else the bytes are no filter, by
+   the first that fails of SST_TRUNCATED, SST_INVALID_HEADER, SST_INVALID_TAG, SST_BAD_FILTER. SST_BAD_ARGUMENT:
+   exactly if hash is none of enum sst_hash. A filter by another hash function is not refused, and hides
+   keys. Takes no memory. */
+uint32_t sst_filter_may_contain(const uint8_t *payload, size_t len, uint32_t hash, const uint8_t *key,
+                                size_t key_len);
 
 /* Writes the frame of a payload at the front of out: 33 bytes of type, lengths and checksums, and the
    payload. block_type: 0 data, 1 index, 2 filter, 3 anything else. SST_OK: *out_len bytes of out are the
    frame. SST_NO_ROOM: out_cap is less than *out_len. SST_BAD_ARGUMENT: exactly if block_type is none of
-   these. SST_TOO_LONG: only where len is 2^32 or more. SST_MEMORY. But for SST_OK out is left, and but
-   for SST_OK and SST_NO_ROOM *out_len. */
-uint32_t sst_frame_write(const uint8_t *payload, size_t len, uint8_t block_type, uint8_t *out, size_t out_cap,
-                         size_t *out_len);
+   these, or hash none of enum sst_hash. SST_TOO_LONG: only where len is 2^32 or more. SST_MEMORY. But for
+   SST_OK out is left, and but for SST_OK and SST_NO_ROOM *out_len. */
+uint32_t sst_frame_write(const uint8_t *payload, size_t len, uint8_t block_type, uint32_t hash, uint8_t *out,
+                         size_t out_cap, size_t *out_len);
 
 /* Checks any bytes as a whole frame. SST_OK: they are one, of a block of this type, whose payload is the
    *payload_len bytes after the first 33. Else the first that fails of SST_TRUNCATED, SST_INVALID_HEADER,
-   SST_INVALID_TAG, SST_CHECKSUM_MISMATCH (header), SST_LENGTH_MISMATCH, SST_CHECKSUM_MISMATCH (payload);
-   or SST_MEMORY. But for SST_OK *block_type and *payload_len are left. Allocates: the frame is copied. */
-uint32_t sst_frame_check(const uint8_t *bytes, size_t len, uint8_t *block_type, size_t *payload_len);
+   SST_INVALID_TAG, SST_CHECKSUM_MISMATCH (header), SST_LENGTH_MISMATCH, SST_CHECKSUM_MISMATCH (payload),
+   the checksums by this hash function; or SST_MEMORY. SST_BAD_ARGUMENT: exactly if hash is none of enum
+   sst_hash. But for SST_OK *block_type and *payload_len are left. Allocates: the frame is copied. */
+uint32_t sst_frame_check(const uint8_t *bytes, size_t len, uint32_t hash, uint8_t *block_type,
+                         size_t *payload_len);
 
 /* How a run is written: num / den buckets of each block's hash index for an entry (0 and 1: none), bits of
-   the filter for each entry (0: no filter), and the numbers of entries and of handles in a restart
-   interval. */
+   the filter for each entry (0: no filter), the numbers of entries and of handles in a restart interval, and
+   the hash function, of enum sst_hash. 16 bytes, at the offsets 0, 4, 8, 12, 13 and 14, without padding; where
+   an initializer leaves the last member out, it is SST_XXH3. */
 struct sst_run_config {
     uint32_t num, den;
     uint32_t bits_per_key;
     uint8_t restart_interval;
     uint8_t index_interval;
+    uint16_t hash;
 };
 
 /* Where the frames of a run's index and of its filter are. There is no filter where its size is 0. */
@@ -191,7 +214,7 @@ struct sst_summary {
 
 /* Writes entries as a run at the front of out: the frames of their blocks, of the index, and of the
    filter. cuts has the indexes of the entries that begin a block but the first: they rise, and are at
-   least 1 and below count. SST_OK: *out_len bytes of out are the run, and *handles tells its frames.
+   least 1 and below count. SST_OK: *out_len bytes of out are the run, and *handles its handles.
    SST_NO_ROOM: out_cap is less than *out_len. SST_BAD_ARGUMENT: exactly if the entries can't be written
    so: those of sst_data_block_encode, cuts that don't fit, or an interval of 0. SST_TOO_LONG: only where
    a block has more than 4294967262 bytes, the filter more than 34359737920 bits, or the run 2^64 bytes
@@ -228,20 +251,23 @@ uint32_t sst_run_block_write(const struct sst_entry *entries, size_t count, cons
    SST_OK: *out_len bytes of out are these frames, and *run_handles has where they are in the run.
    SST_NO_ROOM: out_cap is less than *out_len. SST_BAD_ARGUMENT: exactly if no run can end so: there is no handle,
    an end key is too long, the handles are out of order, their frames do not follow each other from offset 0
-   without a gap, one ends at 2^64 or above, an interval or den is 0, or there is no hash where bits_per_key is
-   not 0. SST_TOO_LONG: only where the index has more than 4294967262 bytes, the filter more than 34359737920
-   bits, or the run 2^64 bytes or more. SST_MEMORY: the frames are made, and then copied to out. But for SST_OK
-   out and *run_handles are left, and but for SST_OK and SST_NO_ROOM *out_len. */
+   without a gap, one ends at 2^64 or above, an interval or den is 0, config->hash is none of enum sst_hash, or
+   there is no hash of a key where bits_per_key is not 0. SST_TOO_LONG: only where the index has more than
+   4294967262 bytes, the filter more than 34359737920 bits, or the run 2^64 bytes or more. SST_MEMORY: the
+   frames are made, and then copied to out. But for SST_OK out and *run_handles are left, and but for SST_OK
+   and SST_NO_ROOM *out_len. */
 uint32_t sst_run_end_write(const struct sst_keyed_handle *handles, size_t handle_count, const uint64_t *hashes,
                            size_t hash_count, const struct sst_run_config *config, uint8_t *out, size_t out_cap,
                            size_t *out_len, struct sst_run_handles *run_handles);
 
-/* Checks any bytes and handles. SST_OK: exactly if they are a run: its frames have their checksums and
-   follow each other, its blocks, index and filter are encodings, all entries are in order, each handle
-   of the index has the last entry of its block, and the filter hides no key. Else the first error of
-   SST_INVALID_HEADER to SST_BAD_HANDLE, the blocks in their order, or SST_MEMORY, and *summary is left.
-   Each frame is copied while it is checked. */
-uint32_t sst_run_check(const uint8_t *run, size_t len, const struct sst_run_handles *handles,
+/* Checks any bytes and handles. SST_OK: exactly if they are a run by this hash function: its frames have
+   their checksums and follow each other, its blocks, index and filter are encodings, all entries are in
+   order, each handle of the index has the last entry of its block, and the filter hides no key. Else the first
+   error of SST_INVALID_HEADER to SST_BAD_HANDLE, the blocks in their order, or SST_MEMORY; or SST_BAD_ARGUMENT:
+   exactly if hash is none of enum sst_hash; and *summary is left. (A run by the other hash function is
+   SST_CHECKSUM_MISMATCH, unless checksums of both happen to agree.) Each frame is copied while it is
+   checked. */
+uint32_t sst_run_check(const uint8_t *run, size_t len, const struct sst_run_handles *handles, uint32_t hash,
                        struct sst_summary *summary);
 
 /* Where a check of a run ended: the frame that it read last, by its handle. */
@@ -257,14 +283,15 @@ struct sst_check_end {
    those of the blocks in the order of their handles, up to the one that is refused. Where the bytes are refused, *end
    is the frame that was read last: it is the one that is refused, but for a block whose handle has another
    offset than the end of the frame before, 0 for the first. That is SST_BAD_HANDLE too, and *end is then the
-   frame before, or the index. *end is left with SST_OK and with SST_MEMORY. */
-uint32_t sst_run_check_at(const uint8_t *run, size_t len, const struct sst_run_handles *handles,
+   frame before, or the index. *end is left with SST_OK, SST_MEMORY and SST_BAD_ARGUMENT. */
+uint32_t sst_run_check_at(const uint8_t *run, size_t len, const struct sst_run_handles *handles, uint32_t hash,
                           struct sst_summary *summary, struct sst_check_end *end);
 
 /* Finds the first entry of a key below a sequence number in a run that sst_run_check accepted or
-   sst_run_write wrote, a tombstone too. SST_OK: *place is where it is in the run. SST_NOT_FOUND: there is
-   none, and *place is left. Takes no memory, and copies nothing. */
-uint32_t sst_run_get(const uint8_t *run, size_t len, const struct sst_run_handles *handles,
+   sst_run_write wrote with this hash function, a tombstone too. SST_OK: *place is where it is in the run.
+   SST_NOT_FOUND: there is none. SST_BAD_ARGUMENT: exactly if hash is none of enum sst_hash. But for SST_OK
+   *place is left. Takes no memory, and copies nothing. */
+uint32_t sst_run_get(const uint8_t *run, size_t len, const struct sst_run_handles *handles, uint32_t hash,
                      const uint8_t *key, size_t key_len, uint64_t below_seqno, struct sst_place *place);
 
 /* What a scan of a run has left: the entries from a first place on up to, not including, an end. A place is
@@ -277,16 +304,16 @@ struct sst_window {
     size_t end_block, end_index;
 };
 
-/* The entries of a run, as for sst_run_get, with keys in a range: from a key on, if has_from is not 0, and up
-   to before another, if has_to is not 0. Where no key is in the range, the window is empty. Takes no
-   memory. */
+/* The entries of a run, as for sst_run_get but by either hash function, with keys in a range: from a key on, if
+   has_from is not 0, and up to before another, if has_to is not 0. Where no key is in the range, the window is
+   empty. Takes no memory. */
 void sst_run_range(const uint8_t *run, size_t len, const struct sst_run_handles *handles, uint8_t has_from,
                    const uint8_t *from, size_t from_len, uint8_t has_to, const uint8_t *to, size_t to_len,
                    struct sst_window *window);
 
 /* Writes where the next entries of a window of a run are, if has_below is not 0 of those with a sequence number
    strictly below one: the first ones that are left in order, or, where reverse is not 0, the last ones, the
-   last first. The run is as for sst_run_get, and the offsets are those in the run. That end of the window is
+   last first. The run is as for sst_run_range, and the offsets are those in the run. That end of the window is
    moved over the entries that the call went past, and the other one stays, so the calls with a window, from
    either end in any mixture, list each of its entries once.
    SST_OK: the first *count places are written: all of them, or fewer where nothing is left then; so *count
@@ -301,13 +328,13 @@ uint32_t sst_run_scan(const uint8_t *run, size_t len, const struct sst_run_handl
 
 /* The same of a data block, as of a run that has this one block: both blocks of the window are 0, and the
    offsets are those in the block. All entries: from 0, 0 up to 0 and the number that sst_data_block_check
-   counts. The bytes are as for sst_data_block_find. */
+   counts. The bytes are a data block by either hash function. */
 uint32_t sst_data_block_scan(const uint8_t *payload, size_t len, struct sst_window *window, uint8_t has_below,
                              uint64_t below_seqno, uint8_t reverse, struct sst_place *places, size_t cap,
                              size_t *count);
 
 /* Reads where index and filter are in the run of a table file, from its last 24 bytes; the run is the bytes
-   before these. SST_OK: *handles tells it. SST_TRUNCATED: exactly if there are fewer than 24 bytes, and
+   before these. SST_OK: *handles is written. SST_TRUNCATED: exactly if there are fewer than 24 bytes, and
    *handles is left. Takes no memory. */
 uint32_t sst_footer_read(const uint8_t *file, size_t len, struct sst_run_handles *handles);
 

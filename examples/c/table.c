@@ -8,7 +8,7 @@
 static uint8_t keys[COUNT][17], values[COUNT][32];
 static struct sst_entry entries[COUNT];
 static const size_t cuts[] = {20, 21, 60};
-static struct sst_run_config config = {0, 1, 10, 4, 1};
+static struct sst_run_config config = {0, 1, 10, 4, 1, SST_XXH3};
 
 static void fill(void) {
     for (int i = 0; i < COUNT; i++) {
@@ -29,14 +29,14 @@ static uint32_t write_run(uint8_t *out, size_t cap, size_t *len, struct sst_run_
 
 static void check(const char *what, const uint8_t *run, size_t len, const struct sst_run_handles *handles) {
     struct sst_summary found = {0, 0, 0, 0};
-    uint32_t status = sst_run_check(run, len, handles, &found);
+    uint32_t status = sst_run_check(run, len, handles, SST_XXH3, &found);
     printf("check %s: %s, %zu blocks, %llu entries, numbers %llu to %llu\n", what, sst_error_name(status),
            found.blocks, (unsigned long long)found.entries, (unsigned long long)found.least_seqno,
            (unsigned long long)found.greatest_seqno);
     struct sst_summary again = {0, 0, 0, 0};
     struct sst_check_end end = {9, 9, 9, 9};
     static const char *const parts[] = {"block", "the index", "the filter"};
-    if (sst_run_check_at(run, len, handles, &again, &end) != status || memcmp(&again, &found, sizeof found) != 0)
+    if (sst_run_check_at(run, len, handles, SST_XXH3, &again, &end) != status || memcmp(&again, &found, sizeof found) != 0)
         printf("checked twice, and not the same\n");
     if (status != SST_OK)
         printf("  at %s %zu, the frame at %llu of %u bytes\n", parts[end.part], end.block,
@@ -48,7 +48,7 @@ static void check(const char *what, const uint8_t *run, size_t len, const struct
 static void get(const uint8_t *run, size_t len, const struct sst_run_handles *handles, const char *key,
                 uint64_t below) {
     struct sst_place at = {0};
-    uint32_t status = sst_run_get(run, len, handles, (const uint8_t *)key, strlen(key), below, &at);
+    uint32_t status = sst_run_get(run, len, handles, SST_XXH3, (const uint8_t *)key, strlen(key), below, &at);
     printf("get %s below %llu: %s", key, (unsigned long long)below, sst_error_name(status));
     if (status == SST_OK)
         printf(", seqno %llu, type %u, key %.*s%.*s, value %.*s", (unsigned long long)at.seqno, at.value_type,
@@ -71,7 +71,7 @@ static void get_all(const uint8_t *run, size_t len, const struct sst_run_handles
     int right = 0;
     for (int i = 0; i < COUNT; i++) {
         struct sst_place at = {0};
-        uint32_t status = sst_run_get(run, len, handles, keys[i], 16, entries[i].seqno + 1, &at);
+        uint32_t status = sst_run_get(run, len, handles, SST_XXH3, keys[i], 16, entries[i].seqno + 1, &at);
         right += status == SST_OK && is_at(run, &at, i);
     }
     printf("of %d entries, found where they are: %d\n", COUNT, right);

@@ -18,13 +18,13 @@ static void fill(void) {
 }
 
 static void encode(uint8_t *out, size_t cap, size_t *len, size_t count, uint8_t interval) {
-    uint32_t status = sst_data_block_encode(entries, count, interval, 1, 2, out, cap, len);
+    uint32_t status = sst_data_block_encode(entries, count, interval, 1, 2, SST_XXH3, out, cap, len);
     printf("encode %zu at %u into %zu bytes: %s, %zu\n", count, interval, cap, sst_error_name(status), *len);
 }
 
 static void find(const uint8_t *block, size_t len, const char *key, uint64_t below) {
     struct sst_place at = {0};
-    uint32_t status = sst_data_block_find(block, len, (const uint8_t *)key, strlen(key), below, &at);
+    uint32_t status = sst_data_block_find(block, len, SST_XXH3, (const uint8_t *)key, strlen(key), below, &at);
     printf("find %s below %llu: %s", key, (unsigned long long)below, sst_error_name(status));
     if (status == SST_OK)
         printf(", seqno %llu, type %u, key %.*s%.*s, value %.*s", (unsigned long long)at.seqno, at.value_type,
@@ -37,7 +37,7 @@ static void find(const uint8_t *block, size_t len, const char *key, uint64_t bel
 static void list(const uint8_t *block, size_t len, struct sst_place *places, size_t cap) {
     struct sst_window left = {0, 0, 0, 0};
     size_t count = 0, same = 0;
-    sst_data_block_check(block, len, &left.end_index);
+    sst_data_block_check(block, len, SST_XXH3, &left.end_index);
     uint32_t status = sst_data_block_scan(block, len, &left, 0, 0, 0, places, cap, &count);
     for (size_t i = 0; status == SST_OK && i < count; i++) {
         const struct sst_place *at = &places[i];
@@ -68,7 +68,7 @@ static void use_entries(const uint8_t *block, size_t len) {
 
 static void check(const char *what, const uint8_t *block, size_t len) {
     size_t count = 0, handles = 0;
-    uint32_t status = sst_data_block_check(block, len, &count);
+    uint32_t status = sst_data_block_check(block, len, SST_XXH3, &count);
     printf("check %s: %s, %zu entries; as an index block: %s\n", what, sst_error_name(status), count,
            sst_error_name(sst_index_block_check(block, len, &handles)));
 }
@@ -108,16 +108,16 @@ static void use_filter(void) {
     for (int i = 0; i < COUNT; i++) names[i] = (struct sst_bytes){keys[i], 16};
     uint8_t filter[200];
     size_t len = 0;
-    uint32_t status = sst_filter_build(names, COUNT, 10, filter, sizeof filter, &len);
+    uint32_t status = sst_filter_build(names, COUNT, 10, SST_XXH3, filter, sizeof filter, &len);
     printf("build a filter: %s, %zu\n", sst_error_name(status), len);
     int found = 0;
-    for (int i = 0; i < COUNT; i++) found += sst_filter_may_contain(filter, len, keys[i], 16) == SST_OK;
+    for (int i = 0; i < COUNT; i++) found += sst_filter_may_contain(filter, len, SST_XXH3, keys[i], 16) == SST_OK;
     printf("of %d keys: %d\n", COUNT, found);
-    printf("another key: %s\n", sst_error_name(sst_filter_may_contain(filter, len, (const uint8_t *)"tbl100000000000f", 16)));
-    printf("21 bytes: %s\n", sst_error_name(sst_filter_may_contain(filter, 21, keys[0], 16)));
+    printf("another key: %s\n", sst_error_name(sst_filter_may_contain(filter, len, SST_XXH3, (const uint8_t *)"tbl100000000000f", 16)));
+    printf("21 bytes: %s\n", sst_error_name(sst_filter_may_contain(filter, 21, SST_XXH3, keys[0], 16)));
     filter[0] ^= 1;
-    printf("other magic: %s\n", sst_error_name(sst_filter_may_contain(filter, len, keys[0], 16)));
-    status = sst_filter_build(names, 0, 10, filter, sizeof filter, &len);
+    printf("other magic: %s\n", sst_error_name(sst_filter_may_contain(filter, len, SST_XXH3, keys[0], 16)));
+    status = sst_filter_build(names, 0, 10, SST_XXH3, filter, sizeof filter, &len);
     printf("of no key: %s\n", sst_error_name(status));
 }
 
@@ -126,19 +126,19 @@ static void use_frame(const uint8_t *block, size_t block_len) {
     static uint8_t frame[4096];
     size_t len = 0, payload_len = 0;
     uint8_t type = 9;
-    uint32_t status = sst_frame_write(block, block_len, 0, frame, sizeof frame, &len);
+    uint32_t status = sst_frame_write(block, block_len, 0, SST_XXH3, frame, sizeof frame, &len);
     printf("write a frame: %s, %zu\n", sst_error_name(status), len);
-    status = sst_frame_check(frame, len, &type, &payload_len);
+    status = sst_frame_check(frame, len, SST_XXH3, &type, &payload_len);
     printf("check it: %s, type %u, %zu bytes\n", sst_error_name(status), type, payload_len);
     const size_t places[] = {0, 4, 5, 25, 32, 33, len - 1};
     for (size_t i = 0; i < sizeof places / sizeof *places; i++) {
         frame[places[i]] ^= 0x55;
-        status = sst_frame_check(frame, len, &type, &payload_len);
+        status = sst_frame_check(frame, len, SST_XXH3, &type, &payload_len);
         printf("byte %zu of it turned: %s\n", places[i], sst_error_name(status));
         frame[places[i]] ^= 0x55;
     }
-    printf("a byte less: %s\n", sst_error_name(sst_frame_check(frame, len - 1, &type, &payload_len)));
-    printf("of type 4: %s\n", sst_error_name(sst_frame_write(block, block_len, 4, frame, sizeof frame, &len)));
+    printf("a byte less: %s\n", sst_error_name(sst_frame_check(frame, len - 1, SST_XXH3, &type, &payload_len)));
+    printf("of type 4: %s\n", sst_error_name(sst_frame_write(block, block_len, 4, SST_XXH3, frame, sizeof frame, &len)));
 }
 
 int main(void) {

@@ -133,7 +133,7 @@ static void read_all(const uint8_t *file, size_t len, const struct sst_run_handl
         uint64_t seqno;
         struct sst_place at;
         size_t value_len = make_entry(i, key, value, &seqno);
-        found += sst_run_get(file, len - 24, handles, (uint8_t *)key, KEY_LEN, seqno + 1, &at) == SST_OK &&
+        found += sst_run_get(file, len - 24, handles, SST_XXH3, (uint8_t *)key, KEY_LEN, seqno + 1, &at) == SST_OK &&
                  at.seqno == seqno && at.value_len == value_len && memcmp(file + at.value_offset, value, value_len) == 0;
     }
     printf("of %d entries, read as written: %zu\n", ENTRIES, found);
@@ -148,7 +148,7 @@ static void read_table(FILE *file, size_t len, const struct sst_run_config *conf
     rewind(file);
     if (fread(bytes, 1, len, file) != len) demand(SST_IO, "the file");
     demand(sst_footer_read(bytes, len, &handles), "the footer");
-    demand(sst_run_check(bytes, len - 24, &handles, &summary), "the check");
+    demand(sst_run_check(bytes, len - 24, &handles, SST_XXH3, &summary), "the check");
     printf("checked: %zu blocks, %llu entries\n", summary.blocks, (unsigned long long)summary.entries);
     read_all(bytes, len, &handles);
     compare(bytes, len, config);
@@ -158,7 +158,7 @@ static void read_table(FILE *file, size_t len, const struct sst_run_config *conf
 static void write_table(uint32_t bits_per_key) {
     struct writer *w = calloc(1, sizeof *w);
     if (w == NULL) demand(SST_MEMORY, "the writer");
-    w->config = (struct sst_run_config){1, 2, bits_per_key, 16, 2};
+    w->config = (struct sst_run_config){1, 2, bits_per_key, 16, 2, SST_XXH3};
     w->file = tmpfile();
     if (w->file == NULL) demand(SST_IO, "a file");
     make_capacity(w, 16);
@@ -189,7 +189,7 @@ static void end_with(const char *what, const struct sst_keyed_handle *handles, s
 
 /* Ends runs of handles that are no one's, and of such that no run can end with. */
 static void use_end(void) {
-    struct sst_run_config config = {0, 1, 10, 16, 1};
+    struct sst_run_config config = {0, 1, 10, 16, 1, SST_XXH3};
     struct sst_keyed_handle handles[2] = {{(const uint8_t *)"b", 1, 5, 0, 100}, {(const uint8_t *)"d", 1, 3, 100, 50}};
     end_with("two handles", handles, 2, 2, &config, 512);
     end_with("into 16 bytes", handles, 2, 2, &config, 16);
@@ -223,7 +223,7 @@ static void write_with(const char *what, const struct sst_entry *entries, size_t
 static void use_block(void) {
     const uint8_t *key = (const uint8_t *)"k", *value = (const uint8_t *)"v";
     struct sst_entry entries[2] = {{key, 1, value, 1, 9, SST_VALUE}, {key, 1, value, 1, 3, SST_VALUE}};
-    struct sst_run_config config = {0, 1, 10, 16, 1};
+    struct sst_run_config config = {0, 1, 10, 16, 1, SST_XXH3};
     write_with("two entries", entries, 2, &config, 512, 3);
     write_with("into 16 bytes", entries, 2, &config, 16, 3);
     write_with("one hash of two", entries, 2, &config, 512, 1);

@@ -1,29 +1,42 @@
 //! Data blocks, index blocks, filters and frames.
-use crate::{Entry, Error, Result, SeqNo, demand, ffi, given};
+use crate::{Entry, Error, Hash, Result, SeqNo, demand, ffi, given};
 use std::cmp::Ordering;
 
 /// A data block over a payload that is borrowed.
 #[derive(Clone, Copy)]
 pub struct DataBlock<'a> {
     payload: &'a [u8],
+    hash: Hash,
     len: usize,
 }
 
 impl<'a> DataBlock<'a> {
     /// Checks any bytes: they are the encoding of an ordered list of entries exactly if this is `Ok`.
     pub fn check(payload: &'a [u8]) -> Result<DataBlock<'a>> {
+        DataBlock::check_by(payload, Hash::Xxh3)
+    }
+
+    /// Checks any bytes as [`DataBlock::check`] does, with a hash index by this hash function.
+    pub fn check_by(payload: &'a [u8], hash: Hash) -> Result<DataBlock<'a>> {
         let mut len = 0;
-        demand(unsafe { ffi::sst_data_block_check(payload.as_ptr(), payload.len(), &mut len) })?;
-        Ok(DataBlock { payload, len })
+        demand(unsafe { ffi::sst_data_block_check(payload.as_ptr(), payload.len(), hash.number(), &mut len) })?;
+        Ok(DataBlock { payload, hash, len })
     }
 
     /// Encodes entries: at least one, by key rising and then by sequence number falling, with a restart
     /// interval of at least 1, and so many buckets of the hash index for so many entries: (3, 4).
     pub fn encode(entries: &[Entry<'_>], restart_interval: u8, ratio: (u32, u32)) -> Result<Vec<u8>> {
+        DataBlock::encode_by(entries, restart_interval, ratio, Hash::Xxh3)
+    }
+
+    /// Encodes entries as [`DataBlock::encode`] does, with a hash index by this hash function.
+    pub fn encode_by(
+        entries: &[Entry<'_>], restart_interval: u8, ratio: (u32, u32), hash: Hash,
+    ) -> Result<Vec<u8>> {
         let (rows, _keys) = given(entries);
-        let (num, den) = ratio;
+        let ((num, den), hash) = (ratio, hash.number());
         ffi::filled(4096, |out, cap, len| unsafe {
-            ffi::sst_data_block_encode(rows.as_ptr(), rows.len(), restart_interval, num, den, out, cap, len)
+            ffi::sst_data_block_encode(rows.as_ptr(), rows.len(), restart_interval, num, den, hash, out, cap, len)
         })
         .map_err(Error::of)
     }
@@ -40,7 +53,7 @@ impl<'a> DataBlock<'a> {
         let payload = self.payload;
         let status = unsafe {
             ffi::sst_data_block_find(
-                payload.as_ptr(), payload.len(), needle.as_ptr(), needle.len(), seqno, &mut at,
+                payload.as_ptr(), payload.len(), self.hash.number(), needle.as_ptr(), needle.len(), seqno, &mut at,
             )
         };
         (status != ffi::NOT_FOUND).then(|| Entry::at(payload, &at))
@@ -215,9 +228,14 @@ impl<'a> IndexBlock<'a> {
 
 /// Builds the payload of a Bloom filter of keys, at least one, at so many bits for each, at least 1.
 pub fn build_filter(keys: &[&[u8]], bits_per_key: u32) -> Result<Vec<u8>> {
+    build_filter_by(keys, bits_per_key, Hash::Xxh3)
+}
+
+/// Builds a filter as [`build_filter`] does, by this hash function.
+pub fn build_filter_by(keys: &[&[u8]], bits_per_key: u32, hash: Hash) -> Result<Vec<u8>> {
     let rows: Vec<_> = keys.iter().map(|key| ffi::Bytes { data: key.as_ptr(), len: key.len() }).collect();
     ffi::filled(4096, |out, cap, len| unsafe {
-        ffi::sst_filter_build(rows.as_ptr(), rows.len(), bits_per_key, out, cap, len)
+        ffi::sst_filter_build(rows.as_ptr(), rows.len(), bits_per_key, hash.number(), out, cap, len)
     })
     .map_err(Error::of)
 }
@@ -226,12 +244,19 @@ pub fn build_filter(keys: &[&[u8]], bits_per_key: u32) -> Result<Vec<u8>> {
 #[derive(Clone, Copy)]
 pub struct StandardBloomFilterReader<'a> {
     payload: &'a [u8],
+    hash: Hash,
 }
 
 impl<'a> StandardBloomFilterReader<'a> {
     /// Opens the filter in any bytes.
     pub fn new(payload: &'a [u8]) -> Result<StandardBloomFilterReader<'a>> {
-        let filter = StandardBloomFilterReader { payload };
+        StandardBloomFilterReader::new_by(payload, Hash::Xxh3)
+    }
+
+    /// Opens the filter in any bytes, whose keys were hashed by this hash function. The bytes do not tell: by
+    /// another one, keys are hidden.
+    pub fn new_by(payload: &'a [u8], hash: Hash) -> Result<StandardBloomFilterReader<'a>> {
+        let filter = StandardBloomFilterReader { payload, hash };
         match filter.ask(b"") {
             0 | ffi::NOT_FOUND => Ok(filter),
             status => Err(Error::of(status)),
@@ -239,9 +264,8 @@ impl<'a> StandardBloomFilterReader<'a> {
     }
 
     fn ask(&self, key: &[u8]) -> u32 {
-        unsafe {
-            ffi::sst_filter_may_contain(self.payload.as_ptr(), self.payload.len(), key.as_ptr(), key.len())
-        }
+        let (payload, hash) = (self.payload, self.hash.number());
+        unsafe { ffi::sst_filter_may_contain(payload.as_ptr(), payload.len(), hash, key.as_ptr(), key.len()) }
     }
 
     /// Whether a key may have been inserted; it may where it was.
@@ -272,17 +296,27 @@ pub struct Block<'a> {
 impl<'a> Block<'a> {
     /// Reads the frame in all these bytes, and verifies its checksums.
     pub fn from_frame(frame: &'a [u8]) -> Result<Block<'a>> {
+        Block::from_frame_by(frame, Hash::Xxh3)
+    }
+
+    /// Reads a frame as [`Block::from_frame`] does, with checksums by this hash function.
+    pub fn from_frame_by(frame: &'a [u8], hash: Hash) -> Result<Block<'a>> {
         let (mut byte, mut len) = (0, 0);
-        demand(unsafe { ffi::sst_frame_check(frame.as_ptr(), frame.len(), &mut byte, &mut len) })?;
+        demand(unsafe { ffi::sst_frame_check(frame.as_ptr(), frame.len(), hash.number(), &mut byte, &mut len) })?;
         let types = [BlockType::Data, BlockType::Index, BlockType::Filter, BlockType::Meta];
         Ok(Block { block_type: types[usize::from(byte)], payload: &frame[33..][..len] })
     }
 
     /// Appends the frame of the block.
     pub fn write_into(&self, out: &mut Vec<u8>) -> Result<()> {
+        self.write_into_by(out, Hash::Xxh3)
+    }
+
+    /// Appends the frame of the block, with checksums by this hash function.
+    pub fn write_into_by(&self, out: &mut Vec<u8>, hash: Hash) -> Result<()> {
         let Block { block_type, payload } = *self;
         let frame = ffi::filled(payload.len() + 33, |out, cap, len| unsafe {
-            ffi::sst_frame_write(payload.as_ptr(), payload.len(), block_type as u8, out, cap, len)
+            ffi::sst_frame_write(payload.as_ptr(), payload.len(), block_type as u8, hash.number(), out, cap, len)
         });
         out.extend(frame.map_err(Error::of)?);
         Ok(())

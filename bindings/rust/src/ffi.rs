@@ -57,6 +57,7 @@ pub struct RunConfig {
     pub bits_per_key: u32,
     pub restart_interval: u8,
     pub index_interval: u8,
+    pub hash: u16,
 }
 
 #[repr(C)]
@@ -97,12 +98,12 @@ pub struct CheckEnd {
 
 extern "C" {
     pub fn sst_data_block_encode(
-        entries: *const Entry, count: usize, interval: u8, num: u32, den: u32, out: *mut u8, cap: usize,
-        len: *mut usize,
+        entries: *const Entry, count: usize, interval: u8, num: u32, den: u32, hash: u32, out: *mut u8,
+        cap: usize, len: *mut usize,
     ) -> c_uint;
-    pub fn sst_data_block_check(payload: *const u8, len: usize, count: *mut usize) -> c_uint;
+    pub fn sst_data_block_check(payload: *const u8, len: usize, hash: u32, count: *mut usize) -> c_uint;
     pub fn sst_data_block_find(
-        payload: *const u8, len: usize, key: *const u8, key_len: usize, below: u64, place: *mut Place,
+        payload: *const u8, len: usize, hash: u32, key: *const u8, key_len: usize, below: u64, place: *mut Place,
     ) -> c_uint;
     pub fn sst_data_block_scan(
         payload: *const u8, len: usize, window: *mut Window, has_below: u8, below: u64, reverse: u8,
@@ -116,14 +117,16 @@ extern "C" {
         payload: *const u8, len: usize, key: *const u8, key_len: usize, below: u64, handle: *mut Handle,
     ) -> c_uint;
     pub fn sst_filter_build(
-        keys: *const Bytes, count: usize, bits_per_key: u32, out: *mut u8, cap: usize, len: *mut usize,
+        keys: *const Bytes, count: usize, bits_per_key: u32, hash: u32, out: *mut u8, cap: usize, len: *mut usize,
     ) -> c_uint;
-    pub fn sst_filter_may_contain(payload: *const u8, len: usize, key: *const u8, key_len: usize) -> c_uint;
+    pub fn sst_filter_may_contain(
+        payload: *const u8, len: usize, hash: u32, key: *const u8, key_len: usize,
+    ) -> c_uint;
     pub fn sst_frame_write(
-        payload: *const u8, len: usize, block_type: u8, out: *mut u8, cap: usize, out_len: *mut usize,
+        payload: *const u8, len: usize, block_type: u8, hash: u32, out: *mut u8, cap: usize, out_len: *mut usize,
     ) -> c_uint;
     pub fn sst_frame_check(
-        bytes: *const u8, len: usize, block_type: *mut u8, payload_len: *mut usize,
+        bytes: *const u8, len: usize, hash: u32, block_type: *mut u8, payload_len: *mut usize,
     ) -> c_uint;
     pub fn sst_run_write(
         entries: *const Entry, count: usize, cuts: *const usize, cut_count: usize, config: *const RunConfig,
@@ -138,14 +141,15 @@ extern "C" {
         config: *const RunConfig, out: *mut u8, cap: usize, len: *mut usize, run_handles: *mut RunHandles,
     ) -> c_uint;
     pub fn sst_run_check(
-        run: *const u8, len: usize, handles: *const RunHandles, summary: *mut Summary,
+        run: *const u8, len: usize, handles: *const RunHandles, hash: u32, summary: *mut Summary,
     ) -> c_uint;
     pub fn sst_run_check_at(
-        run: *const u8, len: usize, handles: *const RunHandles, summary: *mut Summary, end: *mut CheckEnd,
+        run: *const u8, len: usize, handles: *const RunHandles, hash: u32, summary: *mut Summary,
+        end: *mut CheckEnd,
     ) -> c_uint;
     pub fn sst_run_get(
-        run: *const u8, len: usize, handles: *const RunHandles, key: *const u8, key_len: usize, below: u64,
-        place: *mut Place,
+        run: *const u8, len: usize, handles: *const RunHandles, hash: u32, key: *const u8, key_len: usize,
+        below: u64, place: *mut Place,
     ) -> c_uint;
     pub fn sst_run_range(
         run: *const u8, len: usize, handles: *const RunHandles, has_from: u8, from: *const u8, from_len: usize,

@@ -20,12 +20,15 @@
 //! # Ok(())
 //! # }
 //! ```
+//!
+//! Bytes by the other hash function, [`Hash::Poly31`], are for the calls that end in `_by`, and for a
+//! [`Config`] with this `hash`.
 mod block;
 mod ffi;
 mod table;
 
 pub use block::{Block, BlockHandle, BlockType, DataBlock, IndexBlock, Iter, KeyedBlockHandle};
-pub use block::{StandardBloomFilterReader, build_filter};
+pub use block::{StandardBloomFilterReader, build_filter, build_filter_by};
 pub use table::{CheckEnd, Config, Range, Summary, Table, Writer, write_table};
 
 use std::borrow::Cow;
@@ -96,6 +99,22 @@ impl From<Error> for std::io::Error {
 
 fn demand(status: u32) -> Result<()> {
     if status == 0 { Ok(()) } else { Err(Error::of(status)) }
+}
+
+/// The hash function of hash index, filter and checksums. No byte says which one it was.
+#[derive(Clone, Copy, Debug, Default, PartialEq, Eq)]
+pub enum Hash {
+    /// XXH3 with seed 0, as lsm-tree has it: what every call takes that is not passed another one.
+    #[default]
+    Xxh3 = 0,
+    /// From 0, times 31 plus each byte in turn, modulo 2^64 and 2^128.
+    Poly31 = 1,
+}
+
+impl Hash {
+    fn number(self) -> u32 {
+        self as u32
+    }
 }
 
 /// The type of an entry.

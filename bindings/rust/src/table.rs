@@ -1,5 +1,5 @@
 //! Table files.
-use crate::{BlockHandle, BlockType, Entry, Error, Result, SeqNo, ValueType, demand, ffi, given};
+use crate::{BlockHandle, BlockType, Entry, Error, Hash, Result, SeqNo, ValueType, demand, ffi, given};
 use std::io::{self, Write};
 use std::ops::{Bound, RangeBounds};
 
@@ -18,11 +18,20 @@ pub struct Config {
     pub hash_ratio: (u32, u32),
     /// The bits of the filter for each entry; 0: no filter.
     pub bits_per_key: u32,
+    /// The hash function of hash indexes, filter and checksums.
+    pub hash: Hash,
 }
 
 impl Default for Config {
     fn default() -> Config {
-        Config { block_size: 4096, restart_interval: 16, index_interval: 1, hash_ratio: (0, 1), bits_per_key: 10 }
+        Config {
+            block_size: 4096,
+            restart_interval: 16,
+            index_interval: 1,
+            hash_ratio: (0, 1),
+            bits_per_key: 10,
+            hash: Hash::Xxh3,
+        }
     }
 }
 
@@ -35,6 +44,7 @@ impl Config {
             bits_per_key: self.bits_per_key,
             restart_interval: self.restart_interval,
             index_interval: self.index_interval,
+            hash: self.hash as u16,
         }
     }
 }
@@ -255,18 +265,25 @@ pub struct CheckEnd {
 pub struct Table<'a> {
     run: &'a [u8],
     handles: ffi::RunHandles,
+    hash: Hash,
 }
 
 impl<'a> Table<'a> {
-    fn open(file: &'a [u8]) -> Result<Table<'a>> {
+    fn open(file: &'a [u8], hash: Hash) -> Result<Table<'a>> {
         let mut handles = ffi::RunHandles::default();
         demand(unsafe { ffi::sst_footer_read(file.as_ptr(), file.len(), &mut handles) })?;
-        Ok(Table { run: &file[..file.len() - FOOTER_LEN], handles })
+        Ok(Table { run: &file[..file.len() - FOOTER_LEN], handles, hash })
     }
 
     /// Checks all bytes of a file, as [`Table::verify`] does.
     pub fn check(file: &'a [u8]) -> Result<Table<'a>> {
-        let table = Table::open(file)?;
+        Table::check_by(file, Hash::Xxh3)
+    }
+
+    /// Checks all bytes of a file that was written by this hash function. One by another is refused, mostly as
+    /// [`Error::ChecksumMismatch`].
+    pub fn check_by(file: &'a [u8], hash: Hash) -> Result<Table<'a>> {
+        let table = Table::open(file, hash)?;
         table.verify()?;
         Ok(table)
     }
@@ -277,14 +294,24 @@ impl<'a> Table<'a> {
     ///
     /// [`Table::check`] accepted the file, or [`write_table`] or the library wrote it.
     pub unsafe fn trusted(file: &'a [u8]) -> Result<Table<'a>> {
-        Table::open(file)
+        Table::open(file, Hash::Xxh3)
+    }
+
+    /// Takes a file by this hash function, and tests nothing but its length.
+    ///
+    /// # Safety
+    ///
+    /// [`Table::check_by`] accepted the file with this hash function, or [`write_table`] or the library wrote it
+    /// with this one.
+    pub unsafe fn trusted_by(file: &'a [u8], hash: Hash) -> Result<Table<'a>> {
+        Table::open(file, hash)
     }
 
     /// Checks all bytes again, and returns what was counted. Refuses by what is met first.
     pub fn verify(&self) -> Result<Summary> {
         let mut found = ffi::Summary::default();
         demand(unsafe {
-            ffi::sst_run_check(self.run.as_ptr(), self.run.len(), &self.handles, &mut found)
+            ffi::sst_run_check(self.run.as_ptr(), self.run.len(), &self.handles, self.hash.number(), &mut found)
         })?;
         let ffi::Summary { blocks, entries, least_seqno, greatest_seqno } = found;
         Ok(Summary { blocks, entries, least_seqno, greatest_seqno })
@@ -293,10 +320,15 @@ impl<'a> Table<'a> {
     /// Checks all bytes of a file again that [`Table::check`] refused, and returns where the check ended. There
     /// is no such frame where the file is a table or too short for one, or an allocation fails.
     pub fn refused_at(file: &[u8]) -> Option<CheckEnd> {
-        let table = Table::open(file).ok()?;
+        Table::refused_at_by(file, Hash::Xxh3)
+    }
+
+    /// Returns where the check of a file by this hash function ended, as [`Table::refused_at`] does.
+    pub fn refused_at_by(file: &[u8], hash: Hash) -> Option<CheckEnd> {
+        let Table { run, handles, .. } = Table::open(file, hash).ok()?;
         let (mut found, mut end) = (ffi::Summary::default(), ffi::CheckEnd::default());
         let status = unsafe {
-            ffi::sst_run_check_at(table.run.as_ptr(), table.run.len(), &table.handles, &mut found, &mut end)
+            ffi::sst_run_check_at(run.as_ptr(), run.len(), &handles, hash.number(), &mut found, &mut end)
         };
         (status != 0 && status != ffi::MEMORY).then(|| CheckEnd {
             block_type: [BlockType::Data, BlockType::Index, BlockType::Filter][usize::from(end.part)],
@@ -310,7 +342,8 @@ impl<'a> Table<'a> {
         let mut at = ffi::Place::default();
         let status = unsafe {
             ffi::sst_run_get(
-                self.run.as_ptr(), self.run.len(), &self.handles, key.as_ptr(), key.len(), seqno, &mut at,
+                self.run.as_ptr(), self.run.len(), &self.handles, self.hash.number(), key.as_ptr(), key.len(),
+                seqno, &mut at,
             )
         };
         (status != ffi::NOT_FOUND).then(|| Entry::at(self.run, &at))

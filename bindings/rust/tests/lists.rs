@@ -1,12 +1,15 @@
 //! Blocks and tables of random lists, beside the lists.
-use sst::{Block, BlockHandle, BlockType, Config, DataBlock, Entry, Error, IndexBlock, KeyedBlockHandle};
-use sst::{StandardBloomFilterReader, Table, ValueType, Writer, build_filter, write_table};
+use sst::{Block, BlockHandle, BlockType, Config, DataBlock, Entry, Error, Hash, IndexBlock, KeyedBlockHandle};
+use sst::{StandardBloomFilterReader, Table, ValueType, Writer, build_filter, build_filter_by, write_table};
 use std::cell::Cell;
 use std::io::Write;
 use std::ops::Bound;
 
 /// A row of a list.
 type Row = (Vec<u8>, u64, ValueType, Vec<u8>);
+
+/// Each hash function, and the other one.
+const HASHES: [(Hash, Hash); 2] = [(Hash::Xxh3, Hash::Poly31), (Hash::Poly31, Hash::Xxh3)];
 
 /// Numbers by SplitMix64.
 struct Random(u64);
@@ -48,8 +51,9 @@ fn blocks_are_windows_over_their_lists() {
     for seed in 0..60 {
         let rows = rows(seed, 1 + seed as usize * 3);
         let list = entries(&rows);
-        let payload = DataBlock::encode(&list, 1 + seed as u8 % 17, (seed as u32 % 3, 2)).unwrap();
-        let block = DataBlock::check(&payload).unwrap();
+        let hash = HASHES[seed as usize / 3 % 2].0;
+        let payload = DataBlock::encode_by(&list, 1 + seed as u8 % 17, (seed as u32 % 3, 2), hash).unwrap();
+        let block = DataBlock::check_by(&payload, hash).unwrap();
         assert_eq!(block.len(), list.len());
         assert!(block.iter().eq(list.iter().copied()));
         assert!(block.iter().rev().eq(list.iter().rev().copied()));
@@ -67,6 +71,19 @@ fn blocks_are_windows_over_their_lists() {
             assert!(iter.rev().eq(list.iter().rev().copied().filter(|e| e.cmp_key(key).is_lt())));
         }
     }
+}
+
+#[test]
+fn buckets_of_the_other_hash_function_are_refused() {
+    let rows = rows(7, 100);
+    for (hash, other) in HASHES {
+        let payload = DataBlock::encode_by(&entries(&rows), 16, (1, 1), hash).unwrap();
+        assert_eq!(DataBlock::check_by(&payload, hash).unwrap().len(), 100);
+        assert_eq!(DataBlock::check_by(&payload, other).err(), Some(Error::BadHashIndex));
+    }
+    // Without buckets no key is hashed.
+    let payload = DataBlock::encode(&entries(&rows), 16, (0, 1)).unwrap();
+    assert!(DataBlock::check(&payload).is_ok() && DataBlock::check_by(&payload, Hash::Poly31).is_ok());
 }
 
 fn written_in_pieces(list: &[Entry<'_>], config: Config) -> Vec<u8> {
@@ -137,12 +154,16 @@ fn tables_are_their_lists() {
             index_interval: 1 + seed as u8 % 3,
             hash_ratio: (seed as u32 % 3, 2),
             bits_per_key: seed as u32 % 2 * 10,
+            hash: HASHES[seed as usize / 2 % 2].0,
         };
+        let (hash, other) = HASHES[seed as usize / 2 % 2];
         let file = write_table(&list, &config).unwrap();
         assert!(written_in_pieces(&list, config) == file);
-        let table = Table::check(&file).unwrap();
+        let table = Table::check_by(&file, hash).unwrap();
+        assert_eq!(Table::check_by(&file, other).err(), Some(Error::ChecksumMismatch));
+        assert!(Table::refused_at_by(&file, other).is_some() && Table::refused_at_by(&file, hash).is_none());
         assert_eq!(table.verify().unwrap().entries, list.len() as u64);
-        assert!(unsafe { Table::trusted(&file) }.unwrap().iter().eq(list.iter().copied()));
+        assert!(unsafe { Table::trusted_by(&file, hash) }.unwrap().iter().eq(list.iter().copied()));
         assert!(table.iter().rev().eq(list.iter().rev().copied()));
         for (i, low) in rows.iter().enumerate().step_by(5) {
             let high = &rows[(i * 7 + 3) % rows.len()].0;
@@ -217,6 +238,11 @@ fn filters_hide_no_key() {
     assert!(lent.iter().all(|key| filter.contains(key)));
     assert!((1000..11_000u32).filter(|n| filter.contains(&n.to_le_bytes())).count() < 300);
     assert_eq!(StandardBloomFilterReader::new(b"none").err(), Some(Error::Truncated));
+    let payload = build_filter_by(&lent, 10, Hash::Poly31).unwrap();
+    let filter = StandardBloomFilterReader::new_by(&payload, Hash::Poly31).unwrap();
+    assert!(lent.iter().all(|key| filter.contains(key)));
+    let filter = StandardBloomFilterReader::new(&payload).unwrap();
+    assert!(lent.iter().filter(|key| filter.contains(key)).count() < 100);
 }
 
 #[test]
@@ -241,6 +267,11 @@ fn frames_are_read_as_written() {
     let block = Block { block_type: BlockType::Filter, payload: b"payload" };
     block.write_into(&mut out).unwrap();
     assert_eq!(Block::from_frame(&out[6..]), Ok(block));
+    assert_eq!(Block::from_frame_by(&out[6..], Hash::Poly31), Err(Error::ChecksumMismatch));
+    let mut other = vec![];
+    block.write_into_by(&mut other, Hash::Poly31).unwrap();
+    assert_eq!(Block::from_frame_by(&other, Hash::Poly31), Ok(block));
+    assert_eq!(Block::from_frame(&other), Err(Error::ChecksumMismatch));
     out[40] ^= 1;
     assert!(matches!(Block::from_frame(&out[6..]), Err(Error::ChecksumMismatch)));
 }

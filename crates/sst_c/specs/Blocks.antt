@@ -1,15 +1,18 @@
 -- Blocks that are known to be one, and where the parts of an entry are.
 use Rattle.std.specs.Prelude.{◌≡◌, ℕ, ◌+◌, ◌≤◌, ◌<◌, ◌^◌, List, ◌++◌, length, take, drop, Option, Some, None}
-use Rattle.xxh3.specs.Xxh3.{xxh3_64}
 use Rattle.sstable_blocks.specs.Prelude.{Entry, IsEntry, value_type_byte, entries, IsBlock}
 use Rattle.sst_c.specs.declared.codes.Status.{Status}
 use Rattle.sst_c.specs.declared.codes.Status.TheVariants.{Done, NotFound}
 use Rattle.sst_c.specs.declared.data_block.SstPlace.{SstPlace}
 
--- bytes are a data block: the encoding of some ordered, non-empty list of entries, shorter than 2^32
-pub record IsDataBlock (p : List ℕ) : Type 0 where
+-- bytes are a data block by a hash function: the encoding of some ordered, non-empty list of entries, shorter than 2^32
+pub record IsDataBlock (hash : List ℕ → ℕ) (p : List ℕ) : Type 0 where
   pub fits : length p < 2 ^ 32
-  pub encoding : (items : List Entry) × (r : ℕ) × (b : ℕ) × IsBlock entries IsEntry xxh3_64 p items r b
+  pub encoding : (items : List Entry) × (r : ℕ) × (b : ℕ) × IsBlock entries IsEntry hash p items r b
+
+-- bytes are a data block by some hash function
+abbrev pub IsSomeDataBlock : List ℕ → Type 0
+IsSomeDataBlock p = (hash : List ℕ → ℕ) × IsDataBlock hash p
 
 -- so many bytes of a payload, from an offset on
 abbrev pub bytes_behind : List ℕ → ℕ → ℕ → List ℕ

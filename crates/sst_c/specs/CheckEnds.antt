@@ -4,17 +4,16 @@ use Rattle.sstable_blocks.specs.FrameCounts.{check_frames}
 use Rattle.sstable_blocks.specs.Opened.{range_of}
 use Rattle.sstable_blocks.specs.Prelude.{Handle, HandleParts}
 use Rattle.sstable_blocks.specs.Results.{Memory}
-use Rattle.sstable_blocks.specs.RunReading.{handles_at}
+use Rattle.sstable_blocks.specs.RunReading.{Hashes, handles_at}
 use Rattle.sstable_blocks.specs.Sources.{filter_frames}
 use Rattle.sstable_blocks.specs.declared.run.RunHandles.{RunHandles}
-use Rattle.sst_c.specs.Runs.{run_hashes}
 use Rattle.sst_c.specs.declared.codes.Status.{Status}
 use Rattle.sst_c.specs.declared.codes.Status.TheVariants.{Failed}
 use Rattle.sst_c.specs.declared.run_check.SstCheckEnd.{SstCheckEnd}
 
 -- the number of frames that a check of a run reads, at most 2^64 - 1
-abbrev pub frames_read : List ℕ → RunHandles → ℕ
-frames_read bytes h = min (check_frames run_hashes bytes h) (2 ^ 64 - 1)
+abbrev pub frames_read : Hashes → List ℕ → RunHandles → ℕ
+frames_read c bytes h = min (check_frames c bytes h) (2 ^ 64 - 1)
 
 -- a place in a run: the byte of a type of block, the index of a data block, and the range of the frame
 abbrev pub IsFrameOf : ℕ → ℕ → HandleParts → SstCheckEnd → Type 0
@@ -22,13 +21,13 @@ IsFrameOf part block range end = end ≡ record { part = part; block = block; of
 
 -- the last of so many frames of a run, which are read in this order: that of the filter, if there is one, that of the
 -- index, those of the blocks in the order of their handles
-pub record IsLastFrame (bytes : List ℕ) (h : RunHandles) (n : ℕ) (end : SstCheckEnd) : Type 0 where
+pub record IsLastFrame (c : Hashes) (bytes : List ℕ) (h : RunHandles) (n : ℕ) (end : SstCheckEnd) : Type 0 where
   pub filter : n ≤ filter_frames h.filter → IfSome h.filter (λ f. IsFrameOf 2 0 f end)
   pub index : n ≡ filter_frames h.filter + 1 → IsFrameOf 1 0 h.index end
-  pub block : filter_frames h.filter + 2 ≤ n → (hs : List Handle) × (g : Handle) × (handles_at run_hashes bytes h.index ≡ Ok hs)
+  pub block : filter_frames h.filter + 2 ≤ n → (hs : List Handle) × (g : Handle) × (handles_at c bytes h.index ≡ Ok hs)
       × (slice_get hs (n - filter_frames h.filter - 2) ≡ Some g) × IsFrameOf 0 (n - filter_frames h.filter - 2) (range_of g) end
 
 -- where a check ended is noted if it refused the bytes
-abbrev pub IsCheckEnd : List ℕ → RunHandles → SstCheckEnd → SstCheckEnd → Status → Type 0
-IsCheckEnd bytes h old new (Failed e) = (e ≡ Memory → new ≡ old) × (e ≢ Memory → IsLastFrame bytes h (frames_read bytes h) new)
-IsCheckEnd bytes h old new _ = new ≡ old
+abbrev pub IsCheckEnd : Hashes → List ℕ → RunHandles → SstCheckEnd → SstCheckEnd → Status → Type 0
+IsCheckEnd c bytes h old new (Failed e) = (e ≡ Memory → new ≡ old) × (e ≢ Memory → IsLastFrame c bytes h (frames_read c bytes h) new)
+IsCheckEnd c bytes h old new _ = new ≡ old

@@ -1,6 +1,5 @@
 -- Frames in a caller's buffers.
 use Rattle.std.specs.Prelude.{◌≡◌, ◌⊎◌, ℕ, ◌≤◌, ◌^◌, List, length, Ok, Err}
-use Rattle.xxh3.specs.Xxh3.{xxh3_128}
 use Rattle.sstable_blocks.specs.Prelude.{BlockParts, block_type_byte, block_type_of, frame, frame_in}
 use Rattle.sstable_blocks.specs.Results.{Error, TooLong, Memory}
 use Rattle.sstable_blocks.specs.BlockTypes.{BlockType}
@@ -14,20 +13,20 @@ pub record IsFrameFailure (payload old new : List ℕ) (len_old len_new : ℕ) (
   pub kept : AreKept old new len_old len_new
 
 -- what becomes of a frame that is written: an argument is refused exactly if its byte is that of no type of block
-abbrev pub IsFrameWrite : List ℕ → ℕ → List ℕ → List ℕ → ℕ → ℕ → Status → Type 0
-IsFrameWrite payload byte old new len_old len_new BadArgument = ((t : BlockType) → block_type_of byte ≡ Ok t → ⊥) × AreKept old new len_old len_new
-IsFrameWrite payload byte old new len_old len_new (Failed e) = IsFrameFailure payload old new len_old len_new e
-IsFrameWrite payload byte old new len_old len_new s = (t : BlockType) × (block_type_of byte ≡ Ok t) × IsWrittenOut (frame xxh3_128 t payload) old new len_new s
+abbrev pub IsFrameWrite : (List ℕ → ℕ) → List ℕ → ℕ → List ℕ → List ℕ → ℕ → ℕ → Status → Type 0
+IsFrameWrite hash payload byte old new len_old len_new BadArgument = ((t : BlockType) → block_type_of byte ≡ Ok t → ⊥) × AreKept old new len_old len_new
+IsFrameWrite hash payload byte old new len_old len_new (Failed e) = IsFrameFailure payload old new len_old len_new e
+IsFrameWrite hash payload byte old new len_old len_new s = (t : BlockType) × (block_type_of byte ≡ Ok t) × IsWrittenOut (frame hash t payload) old new len_new s
 
 -- bytes are refused as a frame, by the first error, or an allocation failed; what a check tells is left
-pub record IsNoFrame (bytes : List ℕ) (type_old type_new len_old len_new : ℕ) (e : Error) : Type 0 where
-  pub cause : (e ≡ Memory) ⊎ (frame_in xxh3_128 bytes ≡ Err e)
+pub record IsNoFrame (hash : List ℕ → ℕ) (bytes : List ℕ) (type_old type_new len_old len_new : ℕ) (e : Error) : Type 0 where
+  pub cause : (e ≡ Memory) ⊎ (frame_in hash bytes ≡ Err e)
   pub kept_type : type_new ≡ type_old
   pub kept_len : len_new ≡ len_old
 
 -- what a check of a frame says: the byte of its type and the length of its payload, or the error
-abbrev pub IsFrameCheck : List ℕ → ℕ → ℕ → ℕ → ℕ → Status → Type 0
-IsFrameCheck bytes type_old type_new len_old len_new Done =
-    (b : BlockParts) × (frame_in xxh3_128 bytes ≡ Ok b) × (type_new ≡ block_type_byte b.header.block_type) × (len_new ≡ length b.payload)
-IsFrameCheck bytes type_old type_new len_old len_new (Failed e) = IsNoFrame bytes type_old type_new len_old len_new e
-IsFrameCheck bytes type_old type_new len_old len_new _ = ⊥
+abbrev pub IsFrameCheck : (List ℕ → ℕ) → List ℕ → ℕ → ℕ → ℕ → ℕ → Status → Type 0
+IsFrameCheck hash bytes type_old type_new len_old len_new Done =
+    (b : BlockParts) × (frame_in hash bytes ≡ Ok b) × (type_new ≡ block_type_byte b.header.block_type) × (len_new ≡ length b.payload)
+IsFrameCheck hash bytes type_old type_new len_old len_new (Failed e) = IsNoFrame hash bytes type_old type_new len_old len_new e
+IsFrameCheck hash bytes type_old type_new len_old len_new _ = ⊥

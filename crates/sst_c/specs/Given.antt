@@ -1,7 +1,6 @@
 -- Entries as C gives them, and what becomes of their encoding.
 use Rattle.std.specs.Prelude.{◌≡◌, ◌⊎◌, ℕ, ◌≤◌, ◌<◌, ◌^◌, List, ◌++◌, length, map, drop}
 use Rattle.std.specs.List.{AllByRecursion}
-use Rattle.xxh3.specs.Xxh3.{xxh3_64}
 use Rattle.sstable_blocks.specs.Prelude.{Entry, IsEntry, value_type_byte, bucket_count, entries, data_payload, IsOrdered}
 use Rattle.sstable_blocks.specs.Results.{Error, TooLong, Memory}
 use Rattle.sst_c.specs.declared.codes.Status.{Status}
@@ -37,9 +36,9 @@ pub record CanEncode (given : List SstEntry) (interval den : ℕ) (items : List 
   pub some_interval : 1 ≤ interval
   pub some_den : 1 ≤ den
 
--- the payload of a data block at an interval and a hash ratio of num to den
-abbrev pub given_payload : List Entry → ℕ → ℕ → ℕ → List ℕ
-given_payload items interval num den = data_payload xxh3_64 items interval (bucket_count num den (length items))
+-- the payload of a data block by a hash function, at an interval and a hash ratio of num to den
+abbrev pub given_payload : (List ℕ → ℕ) → List Entry → ℕ → ℕ → ℕ → List ℕ
+given_payload hash items interval num den = data_payload hash items interval (bucket_count num den (length items))
 
 -- a buffer and the length that a call writes are left as they were
 abbrev pub AreKept : List ℕ → List ℕ → ℕ → ℕ → Type 0
@@ -52,13 +51,13 @@ IsWrittenOut bytes old new len NoRoom = (len ≡ length bytes) × (length old < 
 IsWrittenOut bytes old new len _ = ⊥
 
 -- an encoding failed: the block is too long, or an allocation failed
-pub record IsEncodeFailure (given : List SstEntry) (interval num den : ℕ) (old new : List ℕ) (len_old len_new : ℕ) (e : Error) : Type 0 where
-  pub cause : (e ≡ Memory) ⊎ ((e ≡ TooLong) × ((items : List Entry) × CanEncode given interval den items × (2 ^ 32 ≤ length (given_payload items interval num den))))
+pub record IsEncodeFailure (hash : List ℕ → ℕ) (given : List SstEntry) (interval num den : ℕ) (old new : List ℕ) (len_old len_new : ℕ) (e : Error) : Type 0 where
+  pub cause : (e ≡ Memory) ⊎ ((e ≡ TooLong) × ((items : List Entry) × CanEncode given interval den items × (2 ^ 32 ≤ length (given_payload hash items interval num den))))
   pub kept : AreKept old new len_old len_new
 
 -- what becomes of an encoding: an argument is refused exactly if the entries can't be encoded
-abbrev pub IsEncode : List SstEntry → ℕ → ℕ → ℕ → List ℕ → List ℕ → ℕ → ℕ → Status → Type 0
-IsEncode given interval num den old new len_old len_new BadArgument = ((items : List Entry) → CanEncode given interval den items → ⊥) × AreKept old new len_old len_new
-IsEncode given interval num den old new len_old len_new (Failed e) = IsEncodeFailure given interval num den old new len_old len_new e
-IsEncode given interval num den old new len_old len_new s =
-    (items : List Entry) × CanEncode given interval den items × IsWrittenOut (given_payload items interval num den) old new len_new s
+abbrev pub IsEncode : (List ℕ → ℕ) → List SstEntry → ℕ → ℕ → ℕ → List ℕ → List ℕ → ℕ → ℕ → Status → Type 0
+IsEncode hash given interval num den old new len_old len_new BadArgument = ((items : List Entry) → CanEncode given interval den items → ⊥) × AreKept old new len_old len_new
+IsEncode hash given interval num den old new len_old len_new (Failed e) = IsEncodeFailure hash given interval num den old new len_old len_new e
+IsEncode hash given interval num den old new len_old len_new s =
+    (items : List Entry) × CanEncode given interval den items × IsWrittenOut (given_payload hash items interval num den) old new len_new s

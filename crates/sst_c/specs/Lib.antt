@@ -1,4 +1,5 @@
 pub mod Codes
+pub mod Hashing
 pub mod Blocks
 pub mod Checks
 pub mod Filters

@@ -1,13 +1,13 @@
 -- Runs written block by block: the frame of a block, and the index and the filter after all blocks.
 use Rattle.std.specs.Prelude.{◌≡◌, ◌⊎◌, ℕ, ◌+◌, ◌*◌, ◌/◌, ◌==◌, ◌≤◌, ◌<◌, ◌^◌, if◌then◌else◌, List, [], ◌∷◌, ◌++◌, length, map, take, drop, Option, Some, None}
 use Rattle.std.specs.List.{AllByRecursion}
-use Rattle.xxh3.specs.Xxh3.{xxh3_64, xxh3_128}
 use Rattle.sstable_blocks.specs.Prelude.{Entry, IsEntry, entries, IsOrdered, Handle, HandleParts, frame, index_payload}
 use Rattle.sstable_blocks.specs.BlockTypes.{BlockType, Index, Filter}
 use Rattle.sstable_blocks.specs.Results.{Error, TooLong, Memory}
 use Rattle.sstable_blocks.specs.Blocks.{joined, IsNotEmpty}
 use Rattle.sstable_blocks.specs.Filter.{bit_count}
 use Rattle.sstable_blocks.specs.Run.{Form, block_payload, block_frame, block_frames, filter_frame, handles_from, key_hashes, IsFilterText, IsFramed, IsLayout, IsWritable, RunFits}
+use Rattle.sstable_blocks.specs.RunReading.{Hashes}
 use Rattle.sstable_blocks.specs.Sound.{AreContiguous}
 use Rattle.sstable_blocks.specs.Writing.{PartFits}
 use Rattle.sstable_blocks.specs.declared.run.RunConfig.{RunConfig}
@@ -29,8 +29,8 @@ pub record CanWriteBlock (given : List SstEntry) (config : RunConfig) (capacity 
   pub hashed : 1 ≤ config.bits_per_key → length items ≤ capacity
 
 -- a block was not written: it is too long, or an allocation failed
-pub record IsBlockFailure (given : List SstEntry) (config : RunConfig) (capacity : ℕ) (old new : List ℕ) (len_old len_new : ℕ) (e : Error) : Type 0 where
-  pub cause : (e ≡ Memory) ⊎ ((e ≡ TooLong) × ((items : List Entry) × CanWriteBlock given config capacity items × (IsFramed (block_payload (run_form config) items) → ⊥)))
+pub record IsBlockFailure (c : Hashes) (given : List SstEntry) (config : RunConfig) (capacity : ℕ) (old new : List ℕ) (len_old len_new : ℕ) (e : Error) : Type 0 where
+  pub cause : (e ≡ Memory) ⊎ ((e ≡ TooLong) × ((items : List Entry) × CanWriteBlock given config capacity items × (IsFramed (block_payload (run_form c config) items) → ⊥)))
   pub kept : AreKept old new len_old len_new
 
 -- the first elements of an array are these hashes, if there is a filter, and the others are left
@@ -45,13 +45,13 @@ AreHashedIf bits hashes old new _ = new ≡ old
 
 -- what becomes of a block that is written, whose frame fits a handle: an argument is refused exactly if the entries can't be
 -- written so
-abbrev pub IsBlockWrite : List SstEntry → RunConfig → List ℕ → List ℕ → ℕ → ℕ → List ℕ → List ℕ → Status → Type 0
-IsBlockWrite given config old new len_old len_new h_old h_new BadArgument =
+abbrev pub IsBlockWrite : Hashes → List SstEntry → RunConfig → List ℕ → List ℕ → ℕ → ℕ → List ℕ → List ℕ → Status → Type 0
+IsBlockWrite c given config old new len_old len_new h_old h_new BadArgument =
     ((items : List Entry) → CanWriteBlock given config (length h_old) items → ⊥) × AreKept old new len_old len_new × (h_new ≡ h_old)
-IsBlockWrite given config old new len_old len_new h_old h_new (Failed e) = IsBlockFailure given config (length h_old) old new len_old len_new e × (h_new ≡ h_old)
-IsBlockWrite given config old new len_old len_new h_old h_new s =
-    (items : List Entry) × CanWriteBlock given config (length h_old) items × IsFramed (block_payload (run_form config) items)
-    × IsWrittenOut (block_frame (run_form config) items) old new len_new s × AreHashedIf config.bits_per_key (key_hashes xxh3_64 items) h_old h_new s
+IsBlockWrite c given config old new len_old len_new h_old h_new (Failed e) = IsBlockFailure c given config (length h_old) old new len_old len_new e × (h_new ≡ h_old)
+IsBlockWrite c given config old new len_old len_new h_old h_new s =
+    (items : List Entry) × CanWriteBlock given config (length h_old) items × IsFramed (block_payload (run_form c config) items)
+    × IsWrittenOut (block_frame (run_form c config) items) old new len_new s × AreHashedIf config.bits_per_key (key_hashes c.hash64 items) h_old h_new s
 
 -- the number of bytes of the frames of handles
 abbrev pub frames_length : List Handle → ℕ
@@ -98,17 +98,17 @@ pub record CanEnd (given : List SstKeyedHandle) (hashes : List ℕ) (config : Ru
   pub writable : IsWritable config
 
 -- the end of a run was not written: it is too long, or an allocation failed
-pub record IsEndFailure (given : List SstKeyedHandle) (hashes : List ℕ) (config : RunConfig) (old new : List ℕ) (len_old len_new : ℕ) (e : Error) : Type 0 where
-  pub cause : (e ≡ Memory) ⊎ ((e ≡ TooLong) × CanEnd given hashes config × (EndFitsRun (run_form config) (map handle_given given) (length hashes) → ⊥))
+pub record IsEndFailure (c : Hashes) (given : List SstKeyedHandle) (hashes : List ℕ) (config : RunConfig) (old new : List ℕ) (len_old len_new : ℕ) (e : Error) : Type 0 where
+  pub cause : (e ≡ Memory) ⊎ ((e ≡ TooLong) × CanEnd given hashes config × (EndFitsRun (run_form c config) (map handle_given given) (length hashes) → ⊥))
   pub kept : AreKept old new len_old len_new
 
 -- what becomes of the end of a run that is written: an argument is refused exactly if no run can end so
-abbrev pub IsEndWrite : List SstKeyedHandle → List ℕ → RunConfig → List ℕ → List ℕ → ℕ → ℕ → SstRunHandles → SstRunHandles → Status → Type 0
-IsEndWrite given hashes config old new len_old len_new h_old h_new BadArgument = (CanEnd given hashes config → ⊥) × AreKept old new len_old len_new × (h_new ≡ h_old)
-IsEndWrite given hashes config old new len_old len_new h_old h_new (Failed e) = IsEndFailure given hashes config old new len_old len_new e × (h_new ≡ h_old)
-IsEndWrite given hashes config old new len_old len_new h_old h_new s =
+abbrev pub IsEndWrite : Hashes → List SstKeyedHandle → List ℕ → RunConfig → List ℕ → List ℕ → ℕ → ℕ → SstRunHandles → SstRunHandles → Status → Type 0
+IsEndWrite c given hashes config old new len_old len_new h_old h_new BadArgument = (CanEnd given hashes config → ⊥) × AreKept old new len_old len_new × (h_new ≡ h_old)
+IsEndWrite c given hashes config old new len_old len_new h_old h_new (Failed e) = IsEndFailure c given hashes config old new len_old len_new e × (h_new ≡ h_old)
+IsEndWrite c given hashes config old new len_old len_new h_old h_new s =
     CanEnd given hashes config
-    × ((bytes : List ℕ) × (h : RunHandles) × IsRunEnd (run_form config) (map handle_given given) hashes bytes h × IsWrittenOut bytes old new len_new s × AreTold h h_old h_new s)
+    × ((bytes : List ℕ) × (h : RunHandles) × IsRunEnd (run_form c config) (map handle_given given) hashes bytes h × IsWrittenOut bytes old new len_new s × AreTold h h_old h_new s)
 
 -- handles and hashes are those of these blocks, each of which can be written, and which are in order: the handles those of
 -- the blocks' frames, one after the other from offset 0, the hashes those of all keys, if there is a filter
@@ -125,23 +125,27 @@ pub record AreOfBlocks (f : Form) (blocks : List (List Entry)) (hs : List Handle
 
 -- what a call that ends a run says of these blocks: what it writes after their frames makes them a run, which its handles
 -- are of, and it fails only where that run does not fit, or by an allocation
-abbrev pub EndsRun : Form → List (List Entry) → List ℕ → ℕ → SstRunHandles → Status → Type 0
-EndsRun f blocks new len h Done = IsLayout f blocks (block_frames f blocks ++ take len new) (handles_given h)
-EndsRun f blocks new len h (Failed e) = (e ≡ Memory) ⊎ ((e ≡ TooLong) × (RunFits f blocks → ⊥))
-EndsRun f blocks new len h NoRoom = Unit {0}
-EndsRun f blocks new len h _ = ⊥
+abbrev pub EndsRunOf : Form → List (List Entry) → List ℕ → ℕ → SstRunHandles → Status → Type 0
+EndsRunOf f blocks new len h Done = IsLayout f blocks (block_frames f blocks ++ take len new) (handles_given h)
+EndsRunOf f blocks new len h (Failed e) = (e ≡ Memory) ⊎ ((e ≡ TooLong) × (RunFits f blocks → ⊥))
+EndsRunOf f blocks new len h NoRoom = Unit {0}
+EndsRunOf f blocks new len h _ = ⊥
+
+-- the same of all blocks that handles and hashes are those of
+abbrev pub EndsRun : Form → List Handle → List ℕ → List ℕ → ℕ → SstRunHandles → Status → Type 0
+EndsRun f hs hashes new len h s = (blocks : List (List Entry)) → AreOfBlocks f blocks hs hashes → EndsRunOf f blocks new len h s
 
 -- bytes grew by the frame of a payload that fits at an offset, whose handle this is
-pub record IsPartAppended (t : BlockType) (at : ℕ) (payload old new : List ℕ) (h : HandleParts) : Type 0 where
-  pub bytes : new ≡ old ++ frame xxh3_128 t payload
+pub record IsPartAppended (hash : List ℕ → ℕ) (t : BlockType) (at : ℕ) (payload old new : List ℕ) (h : HandleParts) : Type 0 where
+  pub bytes : new ≡ old ++ frame hash t payload
   pub handle : h ≡ record { offset = at; size = 33 + length payload }
   pub fits : PartFits at payload
 
 -- bytes grew by the frame of the filter of hashes at an offset, if there are bits, and this is its handle
-abbrev pub IsFilterAppended : ℕ → List ℕ → ℕ → List ℕ → List ℕ → Option HandleParts → Type 0
-IsFilterAppended bits hashes at old new None = (bits ≡ 0) × (new ≡ old)
-IsFilterAppended bits hashes at old new (Some h) =
-    (1 ≤ bits) × (length hashes * bits ≤ 34359737920) × ((p : List ℕ) × IsFilterText hashes bits p × IsPartAppended Filter at p old new h)
+abbrev pub IsFilterAppended : (List ℕ → ℕ) → ℕ → List ℕ → ℕ → List ℕ → List ℕ → Option HandleParts → Type 0
+IsFilterAppended hash bits hashes at old new None = (bits ≡ 0) × (new ≡ old)
+IsFilterAppended hash bits hashes at old new (Some h) =
+    (1 ≤ bits) × (length hashes * bits ≤ 34359737920) × ((p : List ℕ) × IsFilterText hashes bits p × IsPartAppended hash Filter at p old new h)
 
 -- the filter of so many hashes fits after an offset
 abbrev pub FilterFits : ℕ → ℕ → ℕ → Type 0

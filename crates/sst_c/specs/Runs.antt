@@ -1,13 +1,12 @@
 -- Runs in a caller's buffers.
 use Rattle.std.specs.Prelude.{◌≡◌, ◌⊎◌, ℕ, ◌==◌, ◌≤◌, if◌then◌else◌, List, length, Some, None, Err}
-use Rattle.xxh3.specs.Xxh3.{xxh3_64, xxh3_128}
 use Rattle.sstable_blocks.specs.Prelude.{Entry, entries, IsOrdered}
 use Rattle.sstable_blocks.specs.Results.{Error, TooLong, Memory}
 use Rattle.sstable_blocks.specs.Blocks.{CutsFit, blocks_of}
 use Rattle.sstable_blocks.specs.Run.{Form, form, IsLayout, IsWritable, RunFits}
 use Rattle.sstable_blocks.specs.RunChecks.{check_run, summary_of}
-use Rattle.sstable_blocks.specs.RunReading.{Hashes, hashes}
-use Rattle.sstable_blocks.specs.Sound.{IsSound}
+use Rattle.sstable_blocks.specs.RunReading.{Hashes}
+use Rattle.sstable_blocks.specs.Sound.{ForSound, IsSound, IsSoundRun}
 use Rattle.sstable_blocks.specs.declared.run.RunConfig.{RunConfig}
 use Rattle.sstable_blocks.specs.declared.run.RunHandles.{RunHandles}
 use Rattle.sst_c.specs.Given.{AreGiven, AreKept, IsWrittenOut}
@@ -18,9 +17,13 @@ use Rattle.sst_c.specs.declared.run.SstRunConfig.{SstRunConfig}
 use Rattle.sst_c.specs.declared.run.SstRunHandles.{SstRunHandles}
 use Rattle.sst_c.specs.declared.run.SstSummary.{SstSummary}
 
--- the hashes of runs that C writes and reads
-abbrev pub run_hashes : Hashes
-run_hashes = hashes xxh3_64 xxh3_128
+-- bytes with these handles are a sound run by some hashes
+abbrev pub IsSomeRun : List ℕ → RunHandles → Type 0
+IsSomeRun bytes h = (c : Hashes) × IsSoundRun c bytes h
+
+-- what holds of the blocks, if bytes with these handles are a sound run, whatever its hashes
+abbrev pub ForSomeRun : List ℕ → RunHandles → (List (List Entry) → Type 0) → Type 0
+ForSomeRun bytes h holds = (c : Hashes) → ForSound c bytes h holds
 
 -- the handles that are given: there is no filter where its size is 0
 abbrev pub handles_given : SstRunHandles → RunHandles
@@ -37,15 +40,15 @@ pub record IsSummaryOf (blocks : List (List Entry)) (s : SstSummary) : Type 0 wh
   pub greatest_is : s.greatest_seqno ≡ (summary_of blocks).greatest_seqno
 
 -- bytes and handles are no sound run, by the first error of the check, or an allocation failed; the summary is left
-pub record IsNoRun (bytes : List ℕ) (h : RunHandles) (old new : SstSummary) (e : Error) : Type 0 where
-  pub cause : (e ≡ Memory) ⊎ (check_run run_hashes bytes h ≡ Err e)
+pub record IsNoRun (c : Hashes) (bytes : List ℕ) (h : RunHandles) (old new : SstSummary) (e : Error) : Type 0 where
+  pub cause : (e ≡ Memory) ⊎ (check_run c bytes h ≡ Err e)
   pub kept : new ≡ old
 
 -- what a check of a run says
-abbrev pub IsRunCheck : List ℕ → RunHandles → SstSummary → SstSummary → Status → Type 0
-IsRunCheck bytes h old new Done = (blocks : List (List Entry)) × IsSound run_hashes blocks bytes h × IsSummaryOf blocks new
-IsRunCheck bytes h old new (Failed e) = IsNoRun bytes h old new e
-IsRunCheck bytes h old new _ = ⊥
+abbrev pub IsRunCheck : Hashes → List ℕ → RunHandles → SstSummary → SstSummary → Status → Type 0
+IsRunCheck c bytes h old new Done = (blocks : List (List Entry)) × IsSound c blocks bytes h × IsSummaryOf blocks new
+IsRunCheck c bytes h old new (Failed e) = IsNoRun c bytes h old new e
+IsRunCheck c bytes h old new _ = ⊥
 
 -- the configuration that is given
 abbrev pub config_given : SstRunConfig → RunConfig
@@ -64,13 +67,13 @@ pub record CanWrite (given : List SstEntry) (cuts : List ℕ) (config : RunConfi
   pub cut : CutsFit 0 (length items) cuts
   pub writable : IsWritable config
 
--- how C writes runs
-abbrev pub run_form : RunConfig → Form
-run_form config = form xxh3_64 xxh3_128 config
+-- how a run is written by these hashes
+abbrev pub run_form : Hashes → RunConfig → Form
+run_form c config = form c.hash64 c.hash128 config
 
 -- a write failed: something is too long, or an allocation failed; all is left as it was
-pub record IsRunFailure (given : List SstEntry) (cuts : List ℕ) (config : RunConfig) (old new : List ℕ) (len_old len_new : ℕ) (handles_old handles_new : SstRunHandles) (e : Error) : Type 0 where
-  pub cause : (e ≡ Memory) ⊎ ((e ≡ TooLong) × ((items : List Entry) × CanWrite given cuts config items × (RunFits (run_form config) (blocks_of cuts items) → ⊥)))
+pub record IsRunFailure (c : Hashes) (given : List SstEntry) (cuts : List ℕ) (config : RunConfig) (old new : List ℕ) (len_old len_new : ℕ) (handles_old handles_new : SstRunHandles) (e : Error) : Type 0 where
+  pub cause : (e ≡ Memory) ⊎ ((e ≡ TooLong) × ((items : List Entry) × CanWrite given cuts config items × (RunFits (run_form c config) (blocks_of cuts items) → ⊥)))
   pub kept : AreKept old new len_old len_new
   pub kept_handles : handles_new ≡ handles_old
 
@@ -80,10 +83,10 @@ AreTold h old new Done = handles_given new ≡ h
 AreTold h old new _ = new ≡ old
 
 -- what becomes of a run that is written: an argument is refused exactly if the entries can't be written so
-abbrev pub IsRunWrite : List SstEntry → List ℕ → RunConfig → List ℕ → List ℕ → ℕ → ℕ → SstRunHandles → SstRunHandles → Status → Type 0
-IsRunWrite given cuts config old new len_old len_new h_old h_new BadArgument =
+abbrev pub IsRunWrite : Hashes → List SstEntry → List ℕ → RunConfig → List ℕ → List ℕ → ℕ → ℕ → SstRunHandles → SstRunHandles → Status → Type 0
+IsRunWrite c given cuts config old new len_old len_new h_old h_new BadArgument =
     ((items : List Entry) → CanWrite given cuts config items → ⊥) × AreKept old new len_old len_new × (h_new ≡ h_old)
-IsRunWrite given cuts config old new len_old len_new h_old h_new (Failed e) = IsRunFailure given cuts config old new len_old len_new h_old h_new e
-IsRunWrite given cuts config old new len_old len_new h_old h_new s =
+IsRunWrite c given cuts config old new len_old len_new h_old h_new (Failed e) = IsRunFailure c given cuts config old new len_old len_new h_old h_new e
+IsRunWrite c given cuts config old new len_old len_new h_old h_new s =
     (items : List Entry) × CanWrite given cuts config items
-    × ((bytes : List ℕ) × (h : RunHandles) × IsLayout (run_form config) (blocks_of cuts items) bytes h × IsWrittenOut bytes old new len_new s × AreTold h h_old h_new s)
+    × ((bytes : List ℕ) × (h : RunHandles) × IsLayout (run_form c config) (blocks_of cuts items) bytes h × IsWrittenOut bytes old new len_new s × AreTold h h_old h_new s)

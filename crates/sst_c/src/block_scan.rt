@@ -1,18 +1,18 @@
 //! Scans of data blocks from both ends, by batches, as those of a run of one block.
 ghost use Rattle.std.specs.Prelude.{◌≡◌, ◌↔◌, IsTrue, [], ◌∷◌, nat_lt};
 ghost use Rattle.sst_c.specs.Batches.{IsScan, number_given};
-ghost use Rattle.sst_c.specs.Blocks.{IsDataBlock};
+ghost use Rattle.sst_c.specs.Blocks.{IsSomeDataBlock};
 ghost use Rattle.sst_c.specs.Codes.{code_of};
 ghost use Rattle.sst_c.specs.declared.codes.Status.{Status};
 ghost use Rattle.sst_c.specs.Windows.{IsWindowIn};
 ghost use Rattle.sstable_blocks.specs.Prelude.{entries, items_in};
 
+use crate::block_view::BlockView;
 use crate::codes::Status;
 use crate::data_block::SstPlace;
 use crate::run_scan::{number_of, pass_back, pass_front};
 use crate::window::{RunBlock, SstWindow};
 use sstable_blocks::SeqNo;
-use sstable_blocks::table::data_block::DataBlockRef;
 
 // Whether numbers are a window of one block of so many entries.
 fn is_window_in(window: &SstWindow, len: usize) -> bool
@@ -33,13 +33,13 @@ fn scan(
     places: &mut [SstPlace],
     count: &mut usize,
 ) -> Status
-    requires { IsDataBlock payload.now }
+    requires { IsSomeDataBlock payload.now }
     ensures { IsScan payload.now (items_in entries payload.now ∷ []) below back window.old
         window.new places.old places.new count.old count.new result }
 {
     let part = RunBlock {
         start: 0,
-        block: DataBlockRef::new(payload),
+        block: BlockView::new(payload),
     };
     if !is_window_in(window, part.block.len()) {
         return Status::BadArgument;
@@ -57,8 +57,8 @@ fn scan(
 
 /// Lists the next entries of a window of a data block, as
 /// [`sst_run_scan`](crate::run_scan::sst_run_scan) does of a run that has this one block: both
-/// places of the window are in block 0. The bytes are known to be a data block as for
-/// [`sst_data_block_find`](crate::data_block::sst_data_block_find).
+/// places of the window are in block 0. The bytes are known to be a data block, by whatever hash
+/// function.
 #[unsafe(no_mangle)]
 pub extern "C" fn sst_data_block_scan(
     payload: &[u8],
@@ -69,10 +69,11 @@ pub extern "C" fn sst_data_block_scan(
     places: &mut [SstPlace],
     count: &mut usize,
 ) -> u32
-    requires { IsDataBlock payload.now }
+    requires { IsSomeDataBlock payload.now }
     ensures { (s : Status) × (result ≡ code_of s)
-        × IsScan payload.now (items_in entries payload.now ∷ []) (number_given has_below below_seqno)
-        (nat_lt 0 reverse) window.old window.new places.old places.new count.old count.new s }
+        × IsScan payload.now (items_in entries payload.now ∷ [])
+        (number_given has_below below_seqno) (nat_lt 0 reverse) window.old window.new places.old
+        places.new count.old count.new s }
 {
     let below = number_of(has_below, below_seqno);
     scan(payload, window, below, reverse > 0, places, count).code()

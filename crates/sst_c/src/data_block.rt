@@ -1,13 +1,14 @@
 //! Data blocks.
-ghost use Rattle.std.specs.Prelude.{◌≡◌, ◌⊎◌, ◌+◌, ◌≤◌, ◌<◌, ◌^◌, List, length, IfOk, IfErr};
-ghost use Rattle.xxh3.specs.Xxh3.{xxh3_64};
+ghost use Rattle.std.specs.Prelude.{◌≡◌, ◌⊎◌, ◌+◌, ◌≤◌, ◌<◌, ◌^◌, List, length};
+ghost use Rattle.std.specs.Prelude.{IfOk, IfErr, IfSome};
 ghost use Rattle.sst_c.specs.Blocks.{bytes_behind, IsAnswer, IsDataBlock, IsFind, IsPartAt};
 ghost use Rattle.sst_c.specs.Blocks.{IsPlaceOf};
 ghost use Rattle.sst_c.specs.Checks.{IsCheck, IsRefusedOrLacks};
 ghost use Rattle.sst_c.specs.Codes.{code_of};
 ghost use Rattle.sst_c.specs.declared.codes.Status.{Status};
 ghost use Rattle.sst_c.specs.declared.codes.Status.TheVariants.{Failed, BadArgument};
-ghost use Rattle.sst_c.specs.Given.{CanEncode, IsEncode};
+ghost use Rattle.sst_c.specs.Given.{AreKept, CanEncode, IsEncode};
+ghost use Rattle.sst_c.specs.Hashing.{IsHashed, hash64_of, hash_given};
 ghost use Rattle.sstable_blocks.specs.Prelude.{Entry, entries, IsOptionalRange, optional_range};
 ghost use Rattle.sstable_blocks.specs.Prelude.{items_in, first_match, data_check, trailer_in};
 ghost use Rattle.sstable_blocks.specs.Prelude.{entry_of, IsParsedEntry};
@@ -15,10 +16,11 @@ ghost use Rattle.sstable_blocks.specs.Results.{Memory};
 
 use crate::codes::Status;
 use crate::entries::{SstEntry, items_of};
+use crate::hash::Hash;
 use crate::output::write_bytes;
 use sstable_blocks::table::data_block::{DataBlockParsedItem, DataBlockRef};
 use sstable_blocks::table::util::SliceIndexes;
-use sstable_blocks::{DataBlock, EntryView, HashRatio, SeqNo, Steps, Xxh3};
+use sstable_blocks::{BlockHash, DataBlock, EntryView, HashRatio, Poly31, SeqNo, Steps, Xxh3};
 use std::alloc::Global;
 
 /// Where the parts of an entry are in a payload: its user key is the prefix and then the key's own
@@ -112,12 +114,12 @@ pub(crate) fn place_at(
 }
 
 // Where the first entry of a key below a sequence number is.
-fn find(payload: &[u8], key: &[u8], below: SeqNo) -> Option<SstPlace>
-    requires { IsDataBlock payload.now }
+fn find<H: BlockHash>(payload: &[u8], key: &[u8], below: SeqNo) -> Option<SstPlace>
+    requires { IsDataBlock H.hash64 payload.now }
     ensures { IsAnswer payload.now result
         (first_match entries key.now below (items_in entries payload.now)) }
 {
-    let block = DataBlockRef::<Xxh3>::new(payload);
+    let block = DataBlockRef::<H>::new(payload);
     match block.find(key, below, &mut Steps::new()) {
         Some(item) => Some(place_of(payload, &item)),
         None => None,
@@ -125,13 +127,18 @@ fn find(payload: &[u8], key: &[u8], below: SeqNo) -> Option<SstPlace>
 }
 
 // Notes where the first entry of a key below a sequence number is.
-fn note_found(payload: &[u8], key: &[u8], below: SeqNo, place: &mut SstPlace) -> Status
-    requires { IsDataBlock payload.now }
+fn note_found<H: BlockHash>(
+    payload: &[u8],
+    key: &[u8],
+    below: SeqNo,
+    place: &mut SstPlace,
+) -> Status
+    requires { IsDataBlock H.hash64 payload.now }
     ensures { IsFind payload.now
         (first_match entries key.now below (items_in entries payload.now)) place.old place.new
         result }
 {
-    match find(payload, key, below) {
+    match find::<H>(payload, key, below) {
         Some(found) => {
             *place = found;
             Status::Done
@@ -140,35 +147,57 @@ fn note_found(payload: &[u8], key: &[u8], below: SeqNo, place: &mut SstPlace) ->
     }
 }
 
+// The same by the hash function that is given.
+fn find_by(
+    hash: Option<Hash>,
+    payload: &[u8],
+    key: &[u8],
+    below: SeqNo,
+    place: &mut SstPlace,
+) -> Status
+    requires { IfSome hash (λ h. IsDataBlock (hash64_of h) payload.now) }
+    ensures { IsHashed hash result (place.new ≡ place.old) (λ h. IsFind payload.now
+        (first_match entries key.now below (items_in entries payload.now)) place.old place.new
+        result) }
+{
+    match hash {
+        Some(Hash::Xxh3) => note_found::<Xxh3>(payload, key, below, place),
+        Some(Hash::Poly31) => note_found::<Poly31>(payload, key, below, place),
+        None => Status::BadArgument,
+    }
+}
+
 /// Finds the first entry of a key strictly below a sequence number, in bytes that are known to be a
-/// data block: those that [`sst_data_block_check`] accepted or [`sst_data_block_encode`] wrote. No
-/// memory is taken, and nothing is copied.
+/// data block by the hash function of a number: those that [`sst_data_block_check`] accepted or
+/// [`sst_data_block_encode`] wrote with this number. No memory is taken, and nothing is copied.
 ///
-/// Returns 0 and where the entry is, a tombstone too; or 16 if there is none, and leaves `place`.
+/// Returns 0 and where the entry is, a tombstone too; 16 if there is none; or 17 exactly where no
+/// hash function has the number. But for 0 `place` is left.
 #[unsafe(no_mangle)]
 pub extern "C" fn sst_data_block_find(
     payload: &[u8],
+    hash: u32,
     key: &[u8],
     below_seqno: u64,
     place: &mut SstPlace,
 ) -> u32
-    requires { IsDataBlock payload.now }
+    requires { IfSome (hash_given hash) (λ h. IsDataBlock (hash64_of h) payload.now) }
     ensures { (s : Status) × (result ≡ code_of s)
-        × IsFind payload.now
+        × IsHashed (hash_given hash) s (place.new ≡ place.old) (λ h. IsFind payload.now
         (first_match entries key.now below_seqno (items_in entries payload.now)) place.old
-        place.new s }
+        place.new s) }
 {
-    note_found(payload, key, below_seqno, place).code()
+    find_by(Hash::of_number(hash), payload, key, below_seqno, place).code()
 }
 
 // Checks any bytes, and notes the number of entries.
-fn check(alloc: Global, payload: &[u8], count: &mut usize) -> Status
-    ensures { IsCheck (IsDataBlock payload.now)
+fn check<H: BlockHash>(alloc: Global, payload: &[u8], count: &mut usize) -> Status
+    ensures { IsCheck (IsDataBlock H.hash64 payload.now)
         (IsRefusedOrLacks (0 < (trailer_in payload.now).hash_len) payload.now
-        (data_check xxh3_64 payload.now) count.old count.new)
+        (data_check H.hash64 payload.now) count.old count.new)
         (length (items_in entries payload.now)) count.new result }
 {
-    match DataBlockRef::<Xxh3>::check(alloc, payload) {
+    match DataBlockRef::<H>::check(alloc, payload) {
         Ok(block) => {
             *count = block.len();
             Status::Done
@@ -177,21 +206,42 @@ fn check(alloc: Global, payload: &[u8], count: &mut usize) -> Status
     }
 }
 
-/// Checks any bytes as a data block.
+// The same by the hash function that is given.
+fn check_by(hash: Option<Hash>, alloc: Global, payload: &[u8], count: &mut usize) -> Status
+    ensures { IsHashed hash result (count.new ≡ count.old)
+        (λ h. IsCheck (IsDataBlock (hash64_of h) payload.now)
+        (IsRefusedOrLacks (0 < (trailer_in payload.now).hash_len) payload.now
+        (data_check (hash64_of h) payload.now) count.old count.new)
+        (length (items_in entries payload.now)) count.new result) }
+{
+    match hash {
+        Some(Hash::Xxh3) => check::<Xxh3>(alloc, payload, count),
+        Some(Hash::Poly31) => check::<Poly31>(alloc, payload, count),
+        None => Status::BadArgument,
+    }
+}
+
+/// Checks any bytes as a data block, whose hash index is by the hash function of a number.
 ///
 /// Returns 0 and the number of entries exactly if they are the encoding of some ordered, non-empty
 /// list of entries; 6 exactly if there are 2^32 bytes or more; 7 to 12 for the first stage of the
-/// check that fails; 15 only if an allocation fails, which is made where buckets are stored. But
-/// for 0 `count` is left.
+/// check that fails; 15 only if an allocation fails, which is made where buckets are stored; 17
+/// exactly where no hash function has the number. But for 0 `count` is left.
 #[unsafe(no_mangle)]
-pub extern "C" fn sst_data_block_check(payload: &[u8], count: &mut usize, alloc: Global) -> u32
+pub extern "C" fn sst_data_block_check(
+    payload: &[u8],
+    hash: u32,
+    count: &mut usize,
+    alloc: Global,
+) -> u32
     ensures { (s : Status) × (result ≡ code_of s)
-        × IsCheck (IsDataBlock payload.now)
+        × IsHashed (hash_given hash) s (count.new ≡ count.old)
+        (λ h. IsCheck (IsDataBlock (hash64_of h) payload.now)
         (IsRefusedOrLacks (0 < (trailer_in payload.now).hash_len) payload.now
-        (data_check xxh3_64 payload.now) count.old count.new)
-        (length (items_in entries payload.now)) count.new s }
+        (data_check (hash64_of h) payload.now) count.old count.new)
+        (length (items_in entries payload.now)) count.new s) }
 {
-    check(alloc, payload, count).code()
+    check_by(Hash::of_number(hash), alloc, payload, count).code()
 }
 
 /// The entries that are given, if they can be encoded, over the same bytes.
@@ -216,7 +266,7 @@ pub(crate) fn checked_items<'a>(
 }
 
 // Encodes the entries that are given into a buffer.
-fn encode(
+fn encode<H: BlockHash>(
     alloc: Global,
     entries: &[SstEntry<'_>],
     interval: u8,
@@ -224,43 +274,68 @@ fn encode(
     out: &mut [u8],
     out_len: &mut usize,
 ) -> Status
-    ensures { IsEncode entries.now interval ratio.num ratio.den out.old out.new out_len.old
-        out_len.new result }
+    ensures { IsEncode H.hash64 entries.now interval ratio.num ratio.den out.old out.new
+        out_len.old out_len.new result }
 {
     let items = match checked_items(alloc, entries, interval, ratio) {
         Ok(items) => items,
         Err(status) => return status,
     };
     let mut payload = Vec::new(alloc);
-    match DataBlock::<Xxh3>::encode_into(&mut payload, items.as_slice(), interval, ratio) {
+    match DataBlock::<H>::encode_into(&mut payload, items.as_slice(), interval, ratio) {
         Ok(()) => write_bytes(payload.as_slice(), out, out_len),
         Err(error) => Status::Failed(error),
     }
 }
 
+// The same by the hash function that is given.
+fn encode_by(
+    hash: Option<Hash>,
+    alloc: Global,
+    entries: &[SstEntry<'_>],
+    interval: u8,
+    ratio: HashRatio,
+    out: &mut [u8],
+    out_len: &mut usize,
+) -> Status
+    ensures { IsHashed hash result (AreKept out.old out.new out_len.old out_len.new)
+        (λ h. IsEncode (hash64_of h) entries.now interval ratio.num ratio.den out.old out.new
+        out_len.old out_len.new result) }
+{
+    match hash {
+        Some(Hash::Xxh3) => encode::<Xxh3>(alloc, entries, interval, ratio, out, out_len),
+        Some(Hash::Poly31) => encode::<Poly31>(alloc, entries, interval, ratio, out, out_len),
+        None => Status::BadArgument,
+    }
+}
+
 /// Encodes entries as a data block into a buffer: at least one, in order (by key rising, then by
 /// sequence number falling), at a restart interval of at least 1, with `num / den` buckets of the
-/// hash index for each entry (0 and 1 for none).
+/// hash index for each entry (0 and 1 for none), which are by the hash function of a number.
 ///
 /// Returns 0, and the length of the block, which is then the front of `out`; 18 where `out` is too
 /// short, and the length that is needed; 17 exactly where the entries can't be encoded: none, one
-/// that is not an entry, out of order, an interval or a denominator of 0; 6 only where the block
-/// has 2^32 bytes or more; 15 if an allocation fails. But for 0 `out` is left, and but for 0 and 18
-/// `out_len`.
+/// that is not an entry, out of order, an interval or a denominator of 0, or the number of no hash
+/// function; 6 only where the block has 2^32 bytes or more; 15 if an allocation fails. But for 0
+/// `out` is left, and but for 0 and 18 `out_len`.
 #[unsafe(no_mangle)]
 pub extern "C" fn sst_data_block_encode(
     entries: &[SstEntry<'_>],
     interval: u8,
     num: u32,
     den: u32,
+    hash: u32,
     out: &mut [u8],
     out_len: &mut usize,
     alloc: Global,
 ) -> u32
     ensures { (s : Status) × (result ≡ code_of s)
-        × IsEncode entries.now interval num den out.old out.new out_len.old out_len.new s }
+        × IsHashed (hash_given hash) s (AreKept out.old out.new out_len.old out_len.new)
+        (λ h. IsEncode (hash64_of h) entries.now interval num den out.old out.new out_len.old
+        out_len.new s) }
 {
-    encode(
+    encode_by(
+        Hash::of_number(hash),
         alloc,
         entries,
         interval,

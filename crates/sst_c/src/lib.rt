@@ -5,6 +5,7 @@
 #![tactic(auto)]
 
 pub mod block_scan;
+mod block_view;
 pub mod codes;
 pub mod data_block;
 pub mod entries;
@@ -12,6 +13,7 @@ pub mod filter;
 pub mod footer;
 pub mod frame;
 pub mod handles;
+pub mod hash;
 pub mod index_block;
 mod output;
 pub mod run;

@@ -5,28 +5,30 @@ ghost use Rattle.sst_c.specs.Codes.{code_of};
 ghost use Rattle.sst_c.specs.declared.codes.Status.{Status};
 ghost use Rattle.sst_c.specs.declared.codes.Status.TheVariants.{Failed, BadArgument};
 ghost use Rattle.sst_c.specs.declared.entries.SstEntry.{SstEntry};
-ghost use Rattle.sst_c.specs.Given.{IsWrittenOut};
-ghost use Rattle.sst_c.specs.Runs.{config_given, handles_given, run_form, run_hashes};
+ghost use Rattle.sst_c.specs.Given.{AreKept, IsWrittenOut};
+ghost use Rattle.sst_c.specs.Hashing.{IsHashed, hash_given, hashes_of};
+ghost use Rattle.sst_c.specs.Runs.{config_given, handles_given, run_form};
 ghost use Rattle.sst_c.specs.Runs.{AreTold, CanWrite, IsRunCheck, IsRunWrite};
 ghost use Rattle.sstable_blocks.specs.Blocks.{blocks_of, joined};
 ghost use Rattle.sstable_blocks.specs.Opened.{IsFrameRange, payload_in};
-ghost use Rattle.sstable_blocks.specs.Prelude.{Entry, entries, first_match, entry_of};
+ghost use Rattle.sstable_blocks.specs.Prelude.{Entry, entries, first_match, entry_of, hashes};
 ghost use Rattle.sstable_blocks.specs.Prelude.{IsParsedEntry};
 ghost use Rattle.sstable_blocks.specs.Results.{Memory, TooLong};
 ghost use Rattle.sstable_blocks.specs.Run.{IsLayout, RunFits};
-ghost use Rattle.sstable_blocks.specs.Sound.{IsSound};
+ghost use Rattle.sstable_blocks.specs.Sound.{ForSound, IsSoundRun};
 
 use crate::codes::Status;
 use crate::data_block::{SstPlace, place_at};
 use crate::entries::{SstEntry, items_of};
+use crate::hash::Hash;
 use crate::output::write_bytes;
 use sstable_blocks::run::RunRef;
 use sstable_blocks::run::laws::sound_opens;
 use sstable_blocks::table::block::header::HEADER_LEN;
 use sstable_blocks::table::data_block::DataBlockParsedItem;
 use sstable_blocks::{
-    BlockHandle, BlockOffset, DataBlock, EntryView, Error, HashRatio, RunConfig, RunHandles,
-    RunSummary, SeqNo, Steps, Xxh3, cuts_fit, write_run,
+    BlockHandle, BlockHash, BlockOffset, DataBlock, EntryView, Error, HashRatio, Poly31, RunConfig,
+    RunHandles, RunSummary, SeqNo, Steps, Xxh3, cuts_fit, write_run,
 };
 use std::alloc::Global;
 
@@ -59,6 +61,8 @@ pub struct SstRunConfig {
     pub restart_interval: u8,
     /// The number of handles in a restart interval of the index, at least 1.
     pub index_interval: u8,
+    /// The number of the hash function: 0 for XXH3, 1 for the polynomial hash.
+    pub hash: u16,
 }
 
 /// What a check of a run counts.
@@ -108,10 +112,16 @@ pub(crate) fn summary_told(found: &RunSummary) -> SstSummary
 }
 
 // Checks any bytes and handles, and notes what is counted.
-fn check(alloc: Global, bytes: &[u8], handles: &RunHandles, summary: &mut SstSummary) -> Status
-    ensures { IsRunCheck bytes.now handles.now summary.old summary.new result }
+fn check<H: BlockHash>(
+    alloc: Global,
+    bytes: &[u8],
+    handles: &RunHandles,
+    summary: &mut SstSummary,
+) -> Status
+    ensures { IsRunCheck (hashes H.hash64 H.hash128) bytes.now handles.now summary.old summary.new
+        result }
 {
-    match RunRef::<Xxh3>::check(alloc, bytes, handles) {
+    match RunRef::<H>::check(alloc, bytes, handles) {
         Ok((_, found)) => {
             *summary = summary_told(&found);
             Status::Done
@@ -120,24 +130,53 @@ fn check(alloc: Global, bytes: &[u8], handles: &RunHandles, summary: &mut SstSum
     }
 }
 
-/// Checks any bytes and handles as a run. Each frame is copied while it is checked.
+// The same by the hash function that is given.
+fn check_by(
+    hash: Option<Hash>,
+    alloc: Global,
+    bytes: &[u8],
+    handles: &RunHandles,
+    summary: &mut SstSummary,
+) -> Status
+    ensures { IsHashed hash result (summary.new ≡ summary.old) (λ h. IsRunCheck (hashes_of h)
+        bytes.now handles.now summary.old summary.new result) }
+{
+    match hash {
+        Some(Hash::Xxh3) => check::<Xxh3>(alloc, bytes, handles, summary),
+        Some(Hash::Poly31) => check::<Poly31>(alloc, bytes, handles, summary),
+        None => Status::BadArgument,
+    }
+}
+
+/// Checks any bytes and handles as a run by the hash function of a number. Each frame is copied
+/// while it is checked.
 ///
 /// Returns 0 and what was counted exactly if they are a sound run: the frames of the blocks follow
 /// each other from offset 0, each with its checksums; each block, the index and the filter are
 /// encodings; the entries are in order, within a block and across blocks; each handle of the index
 /// has the last entry of its block; and the filter, if there is one, may contain each key. Else the
-/// number of the first error, 1 excepted, or 15 if an allocation fails, and `summary` is left.
+/// number of the first error, 1 excepted, or 15 if an allocation fails, or 17 exactly where no hash
+/// function has the number; and `summary` is left.
 #[unsafe(no_mangle)]
 pub extern "C" fn sst_run_check(
     bytes: &[u8],
     handles: &SstRunHandles,
+    hash: u32,
     summary: &mut SstSummary,
     alloc: Global,
 ) -> u32
     ensures { (s : Status) × (result ≡ code_of s)
-        × IsRunCheck bytes.now (handles_given handles.now) summary.old summary.new s }
+        × IsHashed (hash_given hash) s (summary.new ≡ summary.old) (λ h. IsRunCheck (hashes_of h)
+        bytes.now (handles_given handles.now) summary.old summary.new s) }
 {
-    check(alloc, bytes, &run_handles(handles), summary).code()
+    check_by(
+        Hash::of_number(hash),
+        alloc,
+        bytes,
+        &run_handles(handles),
+        summary,
+    )
+    .code()
 }
 
 /// The payload of a frame.
@@ -176,12 +215,17 @@ fn place_in(bytes: &[u8], handle: &BlockHandle, item: &DataBlockParsedItem) -> S
 }
 
 // Where the first entry of a key below a sequence number is.
-fn find(bytes: &[u8], handles: &RunHandles, key: &[u8], below: SeqNo) -> Option<SstPlace>
-    requires { (blocks : List (List Entry)) × IsSound run_hashes blocks bytes.now handles.now }
-    ensures { (blocks : List (List Entry)) → IsSound run_hashes blocks bytes.now handles.now
-        → IsAnswer bytes.now result (first_match entries key.now below (joined blocks)) }
+fn find<H: BlockHash>(
+    bytes: &[u8],
+    handles: &RunHandles,
+    key: &[u8],
+    below: SeqNo,
+) -> Option<SstPlace>
+    requires { IsSoundRun (hashes H.hash64 H.hash128) bytes.now handles.now }
+    ensures { ForSound (hashes H.hash64 H.hash128) bytes.now handles.now (λ blocks.
+        IsAnswer bytes.now result (first_match entries key.now below (joined blocks))) }
 {
-    let run = RunRef::<Xxh3>::new(bytes, handles);
+    let run = RunRef::<H>::new(bytes, handles);
     match run.locate(key, below, &mut Steps::new()) {
         Some((handle, item)) => Some(place_in(bytes, &handle, &item)),
         None => None,
@@ -189,19 +233,18 @@ fn find(bytes: &[u8], handles: &RunHandles, key: &[u8], below: SeqNo) -> Option<
 }
 
 // Notes where the first entry of a key below a sequence number is.
-fn note_found(
+fn note_found<H: BlockHash>(
     bytes: &[u8],
     handles: &RunHandles,
     key: &[u8],
     below: SeqNo,
     place: &mut SstPlace,
 ) -> Status
-    requires { (blocks : List (List Entry)) × IsSound run_hashes blocks bytes.now handles.now }
-    ensures { (blocks : List (List Entry)) → IsSound run_hashes blocks bytes.now handles.now
-        → IsFind bytes.now (first_match entries key.now below (joined blocks)) place.old place.new
-        result }
+    requires { IsSoundRun (hashes H.hash64 H.hash128) bytes.now handles.now }
+    ensures { ForSound (hashes H.hash64 H.hash128) bytes.now handles.now (λ blocks. IsFind bytes.now
+        (first_match entries key.now below (joined blocks)) place.old place.new result) }
 {
-    match find(bytes, handles, key, below) {
+    match find::<H>(bytes, handles, key, below) {
         Some(found) => {
             *place = found;
             Status::Done
@@ -210,28 +253,60 @@ fn note_found(
     }
 }
 
-/// Finds the first entry of a key strictly below a sequence number in a run, by its filter and its
-/// index: in bytes and handles that [`sst_run_check`] accepted or [`sst_run_write`] wrote. No
-/// memory is taken, and nothing is copied; the offsets of the place are those in the run.
+// The same by the hash function that is given.
+fn find_by(
+    hash: Option<Hash>,
+    bytes: &[u8],
+    handles: &RunHandles,
+    key: &[u8],
+    below: SeqNo,
+    place: &mut SstPlace,
+) -> Status
+    requires { IfSome hash (λ h. IsSoundRun (hashes_of h) bytes.now handles.now) }
+    ensures { IsHashed hash result (place.new ≡ place.old)
+        (λ h. ForSound (hashes_of h) bytes.now handles.now (λ blocks. IsFind bytes.now
+        (first_match entries key.now below (joined blocks)) place.old place.new result)) }
+{
+    match hash {
+        Some(Hash::Xxh3) => note_found::<Xxh3>(bytes, handles, key, below, place),
+        Some(Hash::Poly31) => note_found::<Poly31>(bytes, handles, key, below, place),
+        None => Status::BadArgument,
+    }
+}
+
+/// Finds the first entry of a key strictly below a sequence number in a run by the hash function of
+/// a number, by its filter and its index: in bytes and handles that [`sst_run_check`] accepted or
+/// [`sst_run_write`] wrote with this number. No memory is taken, and nothing is copied; the offsets
+/// of the place are those in the run.
 ///
-/// Returns 0 and where the entry is, a tombstone too; or 16 if there is none, and leaves `place`.
+/// Returns 0 and where the entry is, a tombstone too; 16 if there is none; or 17 exactly where no
+/// hash function has the number. But for 0 `place` is left.
 #[unsafe(no_mangle)]
 pub extern "C" fn sst_run_get(
     bytes: &[u8],
     handles: &SstRunHandles,
+    hash: u32,
     key: &[u8],
     below_seqno: u64,
     place: &mut SstPlace,
 ) -> u32
-    requires { (blocks : List (List Entry))
-        × IsSound run_hashes blocks bytes.now (handles_given handles.now) }
+    requires { IfSome (hash_given hash)
+        (λ h. IsSoundRun (hashes_of h) bytes.now (handles_given handles.now)) }
     ensures { (s : Status) × (result ≡ code_of s)
-        × ((blocks : List (List Entry))
-        → IsSound run_hashes blocks bytes.now (handles_given handles.now)
-        → IsFind bytes.now (first_match entries key.now below_seqno (joined blocks)) place.old
-        place.new s) }
+        × IsHashed (hash_given hash) s (place.new ≡ place.old)
+        (λ h. ForSound (hashes_of h) bytes.now (handles_given handles.now) (λ blocks.
+        IsFind bytes.now (first_match entries key.now below_seqno (joined blocks)) place.old
+        place.new s)) }
 {
-    note_found(bytes, &run_handles(handles), key, below_seqno, place).code()
+    find_by(
+        Hash::of_number(hash),
+        bytes,
+        &run_handles(handles),
+        key,
+        below_seqno,
+        place,
+    )
+    .code()
 }
 
 /// The configuration that is given.
@@ -278,22 +353,23 @@ fn checked_items<'a>(
 }
 
 // Writes the run of entries.
-fn run_of(
+fn run_of<H: BlockHash>(
     alloc: Global,
     items: &[EntryView<'_>],
     cuts: &[usize],
     config: RunConfig,
 ) -> Result<(Vec<u8>, RunHandles), Error>
     requires { (given : List SstEntry) × CanWrite given cuts.now config items.now }
-    ensures ok { IfOk result
-        (λ r. IsLayout (run_form config) (blocks_of cuts.now items.now) r.0.items r.1) }
+    ensures ok { IfOk result (λ r. IsLayout (run_form (hashes H.hash64 H.hash128) config)
+        (blocks_of cuts.now items.now) r.0.items r.1) }
     ensures filter { IfOk result (λ r. IfSome r.1.filter (λ f. 0 < f.size)) }
     ensures cause { IfErr result (λ e. (e ≡ Memory) ⊎ ((e ≡ TooLong)
-        × (RunFits (run_form config) (blocks_of cuts.now items.now) → ⊥))) }
+        × (RunFits (run_form (hashes H.hash64 H.hash128) config) (blocks_of cuts.now items.now)
+        → ⊥))) }
 {
     sound_opens();
     let mut bytes = Vec::new(alloc);
-    match write_run::<Xxh3, EntryView<'_>, Vec<u8>>(alloc, &mut bytes, items, cuts, config) {
+    match write_run::<H, EntryView<'_>, Vec<u8>>(alloc, &mut bytes, items, cuts, config) {
         Ok(handles) => Ok((bytes, handles)),
         Err(Error::TooLong) => Err(Error::TooLong),
         // A vector fails as a writer where its allocation does.
@@ -340,7 +416,7 @@ pub(crate) fn tell(
 }
 
 // Writes the run of the entries that are given into a buffer.
-fn write(
+fn write<H: BlockHash>(
     alloc: Global,
     entries: &[SstEntry<'_>],
     cuts: &[usize],
@@ -349,16 +425,39 @@ fn write(
     out_len: &mut usize,
     handles: &mut SstRunHandles,
 ) -> Status
-    ensures { IsRunWrite entries.now cuts.now config out.old out.new out_len.old out_len.new
-        handles.old handles.new result }
+    ensures { IsRunWrite (hashes H.hash64 H.hash128) entries.now cuts.now config out.old out.new
+        out_len.old out_len.new handles.old handles.new result }
 {
     let items = match checked_items(alloc, entries, cuts, &config) {
         Ok(items) => items,
         Err(status) => return status,
     };
-    match run_of(alloc, items.as_slice(), cuts, config) {
+    match run_of::<H>(alloc, items.as_slice(), cuts, config) {
         Ok((bytes, found)) => tell(bytes.as_slice(), &found, out, out_len, handles),
         Err(error) => Status::Failed(error),
+    }
+}
+
+// The same by the hash function that is given.
+fn write_by(
+    hash: Option<Hash>,
+    alloc: Global,
+    entries: &[SstEntry<'_>],
+    cuts: &[usize],
+    config: RunConfig,
+    out: &mut [u8],
+    out_len: &mut usize,
+    handles: &mut SstRunHandles,
+) -> Status
+    ensures { IsHashed hash result
+        (AreKept out.old out.new out_len.old out_len.new × (handles.new ≡ handles.old))
+        (λ h. IsRunWrite (hashes_of h) entries.now cuts.now config out.old out.new out_len.old
+        out_len.new handles.old handles.new result) }
+{
+    match hash {
+        Some(Hash::Xxh3) => write::<Xxh3>(alloc, entries, cuts, config, out, out_len, handles),
+        Some(Hash::Poly31) => write::<Poly31>(alloc, entries, cuts, config, out, out_len, handles),
+        None => Status::BadArgument,
     }
 }
 
@@ -369,9 +468,9 @@ fn write(
 /// Returns 0, and the length of the run, which is then the front of `out`, and its handles; 18
 /// where `out` is too short, and the length that is needed; 17 exactly where the entries can't be
 /// written so: none, one that is not an entry, out of order, cuts that do not fit, an interval or a
-/// denominator of 0; 6 only where a block has more than 4294967262 bytes, the filter more than
-/// 34359737920 bits, or all frames 2^64 bytes or more; 15 if an allocation fails. But for 0 `out`
-/// and `handles` are left, and but for 0 and 18 `out_len`.
+/// denominator of 0, or the number of no hash function; 6 only where a block has more than
+/// 4294967262 bytes, the filter more than 34359737920 bits, or all frames 2^64 bytes or more; 15 if
+/// an allocation fails. But for 0 `out` and `handles` are left, and but for 0 and 18 `out_len`.
 #[unsafe(no_mangle)]
 pub extern "C" fn sst_run_write(
     entries: &[SstEntry<'_>],
@@ -382,11 +481,13 @@ pub extern "C" fn sst_run_write(
     handles: &mut SstRunHandles,
     alloc: Global,
 ) -> u32
-    ensures { (s : Status) × (result ≡ code_of s)
-        × IsRunWrite entries.now cuts.now (config_given config.now) out.old out.new out_len.old
-        out_len.new handles.old handles.new s }
+    ensures { (s : Status) × (result ≡ code_of s) × IsHashed (hash_given config.now.hash) s
+        (AreKept out.old out.new out_len.old out_len.new × (handles.new ≡ handles.old))
+        (λ h. IsRunWrite (hashes_of h) entries.now cuts.now (config_given config.now) out.old
+        out.new out_len.old out_len.new handles.old handles.new s) }
 {
-    write(
+    write_by(
+        Hash::of_number(u32::from(config.hash)),
         alloc,
         entries,
         cuts,

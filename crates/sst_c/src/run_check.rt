@@ -4,22 +4,25 @@ ghost use Rattle.std.specs.Prelude.{Some, Ok};
 ghost use Rattle.std.specs.Option.{option_map};
 ghost use Rattle.sst_c.specs.CheckEnds.{frames_read, IsCheckEnd, IsFrameOf, IsLastFrame};
 ghost use Rattle.sst_c.specs.Codes.{code_of};
-ghost use Rattle.sst_c.specs.Runs.{handles_given, run_hashes, IsRunCheck};
+ghost use Rattle.sst_c.specs.Hashing.{IsHashed, hash_given, hashes_of};
+ghost use Rattle.sst_c.specs.Runs.{handles_given, IsRunCheck};
 ghost use Rattle.sst_c.specs.declared.codes.Status.{Status};
 ghost use Rattle.sstable_blocks.specs.BlockLaws.{handle_range};
 ghost use Rattle.sstable_blocks.specs.FrameCounts.{check_frames};
-ghost use Rattle.sstable_blocks.specs.Prelude.{Handle, block_type_byte};
-ghost use Rattle.sstable_blocks.specs.RunReading.{handles_at};
+ghost use Rattle.sstable_blocks.specs.Prelude.{Handle, block_type_byte, hashes};
+ghost use Rattle.sstable_blocks.specs.RunReading.{Hashes, handles_at};
 ghost use Rattle.sstable_blocks.specs.Sources.{filter_frames};
 
 use crate::codes::Status;
+use crate::hash::Hash;
 use crate::run::{SstRunHandles, SstSummary, payload_of, run_handles, summary_told};
 use sstable_blocks::ghost_state::Count;
 use sstable_blocks::laws::index_check_accepts_encodings;
 use sstable_blocks::run::check;
 use sstable_blocks::table::index_block::IndexBlockRef;
 use sstable_blocks::{
-    BlockHandle, BlockType, Error, FrameSource, Result, RunHandles, Slice, Steps, Xxh3,
+    BlockHandle, BlockHash, BlockType, Error, FrameSource, Poly31, Result, RunHandles, Slice,
+    Steps, Xxh3,
 };
 use std::alloc::Global;
 use std::marker::Model;
@@ -122,9 +125,9 @@ fn end_at(part: BlockType, block: usize, handle: &BlockHandle) -> SstCheckEnd
 
 // The handle at an index of the index of a run, which a check reads.
 fn handle_at(bytes: &[u8], handles: &RunHandles, block: usize) -> BlockHandle
-    requires { (hs : List Handle) × (handles_at run_hashes bytes.now handles.now.index ≡ Ok hs)
-        × (block < length hs) }
-    ensures { (hs : List Handle) → handles_at run_hashes bytes.now handles.now.index ≡ Ok hs
+    requires { (c : Hashes) × (hs : List Handle)
+        × (handles_at c bytes.now handles.now.index ≡ Ok hs) × (block < length hs) }
+    ensures { (c : Hashes) (hs : List Handle) → handles_at c bytes.now handles.now.index ≡ Ok hs
         → Some result ≡ option_map handle_range (slice_get hs block) }
 {
     index_check_accepts_encodings();
@@ -146,8 +149,9 @@ fn filter_frames(filter: &Option<BlockHandle>) -> u64
 
 // The frame that a check of a run read last, after so many.
 fn last_frame(bytes: &[u8], handles: &RunHandles, frames: u64) -> SstCheckEnd
-    requires { frames ≡ frames_read bytes.now handles.now }
-    ensures { IsLastFrame bytes.now handles.now frames result }
+    requires { (c : Hashes) × (frames ≡ frames_read c bytes.now handles.now) }
+    ensures { (c : Hashes) → frames ≡ frames_read c bytes.now handles.now
+        → IsLastFrame c bytes.now handles.now frames result }
 {
     let before = filter_frames(&handles.filter);
     if frames > before + 1 {
@@ -162,18 +166,20 @@ fn last_frame(bytes: &[u8], handles: &RunHandles, frames: u64) -> SstCheckEnd
 }
 
 // Checks any bytes and handles, and notes what is counted, or where the check ended.
-fn check_run(
+fn check_run<H: BlockHash>(
     alloc: Global,
     bytes: &[u8],
     handles: &RunHandles,
     summary: &mut SstSummary,
     end: &mut SstCheckEnd,
 ) -> Status
-    ensures checked { IsRunCheck bytes.now handles.now summary.old summary.new result }
-    ensures end { IsCheckEnd bytes.now handles.now end.old end.new result }
+    ensures checked { IsRunCheck (hashes H.hash64 H.hash128) bytes.now handles.now summary.old
+        summary.new result }
+    ensures end { IsCheckEnd (hashes H.hash64 H.hash128) bytes.now handles.now end.old end.new
+        result }
 {
     let mut source = CountedSource::new(bytes);
-    match check::<Xxh3, CountedSource<'_>>(alloc, &mut source, handles) {
+    match check::<H, CountedSource<'_>>(alloc, &mut source, handles) {
         Ok(found) => {
             *summary = summary_told(&found);
             Status::Done
@@ -186,25 +192,57 @@ fn check_run(
     }
 }
 
-/// Checks any bytes and handles as [`sst_run_check`](crate::run::sst_run_check) does, and says where
-/// the check ended: at the frame that it read last. Frames are read in this order: that of the
-/// filter, if there is one, that of the index, those of the blocks. The frame that a block's handle
-/// names is read only where it begins at the end of the one before; where it does not, that is
-/// error 14, and the frame before it, or the index, was read last.
+// The same by the hash function that is given.
+fn check_run_by(
+    hash: Option<Hash>,
+    alloc: Global,
+    bytes: &[u8],
+    handles: &RunHandles,
+    summary: &mut SstSummary,
+    end: &mut SstCheckEnd,
+) -> Status
+    ensures { IsHashed hash result ((summary.new ≡ summary.old) × (end.new ≡ end.old))
+        (λ h. IsRunCheck (hashes_of h) bytes.now handles.now summary.old summary.new result
+        × IsCheckEnd (hashes_of h) bytes.now handles.now end.old end.new result) }
+{
+    match hash {
+        Some(Hash::Xxh3) => check_run::<Xxh3>(alloc, bytes, handles, summary, end),
+        Some(Hash::Poly31) => check_run::<Poly31>(alloc, bytes, handles, summary, end),
+        None => Status::BadArgument,
+    }
+}
+
+/// Checks any bytes and handles as [`sst_run_check`](crate::run::sst_run_check) does, and says
+/// where the check ended: at the frame that it read last. Frames are read in this order: that of
+/// the filter, if there is one, that of the index, those of the blocks. The frame that a block's
+/// handle names is read only where it begins at the end of the one before; where it does not, that
+/// is error 14, and the frame before it, or the index, was read last.
 ///
 /// Returns what [`sst_run_check`](crate::run::sst_run_check) returns. `end` is written where the
-/// bytes are refused, and else left, as it is where an allocation fails.
+/// bytes are refused, and else left, as it is where an allocation fails, or where no hash function
+/// has the number.
 #[unsafe(no_mangle)]
 pub extern "C" fn sst_run_check_at(
     bytes: &[u8],
     handles: &SstRunHandles,
+    hash: u32,
     summary: &mut SstSummary,
     end: &mut SstCheckEnd,
     alloc: Global,
 ) -> u32
-    ensures { (s : Status) × (result ≡ code_of s)
-        × IsRunCheck bytes.now (handles_given handles.now) summary.old summary.new s
-        × IsCheckEnd bytes.now (handles_given handles.now) end.old end.new s }
+    ensures { (s : Status) × (result ≡ code_of s) × IsHashed (hash_given hash) s
+        ((summary.new ≡ summary.old) × (end.new ≡ end.old))
+        (λ h. IsRunCheck (hashes_of h) bytes.now (handles_given handles.now) summary.old
+        summary.new s × IsCheckEnd (hashes_of h) bytes.now (handles_given handles.now) end.old
+        end.new s) }
 {
-    check_run(alloc, bytes, &run_handles(handles), summary, end).code()
+    check_run_by(
+        Hash::of_number(hash),
+        alloc,
+        bytes,
+        &run_handles(handles),
+        summary,
+        end,
+    )
+    .code()
 }

@@ -2,22 +2,19 @@
 ghost use Rattle.std.specs.Prelude.{◌≡◌, List, length};
 ghost use Rattle.std.specs.declared.ops.Bound.TheVariants.{Included};
 ghost use Rattle.sst_c.specs.Ranges.{IsWindowOf, before_key, from_key, key_given, keys_between};
-ghost use Rattle.sst_c.specs.Runs.{handles_given, run_hashes};
+ghost use Rattle.sst_c.specs.Runs.{ForSomeRun, IsSomeRun, handles_given};
 ghost use Rattle.sst_c.specs.Windows.{IsPlaceIn, IsWindow, blocks_in, count_before, left_in};
 ghost use Rattle.sstable_blocks.specs.Prelude.{Entry, entries, items_left};
 ghost use Rattle.sstable_blocks.specs.Blocks.{joined};
 ghost use Rattle.sstable_blocks.specs.RisingLaws.{counted};
 ghost use Rattle.sstable_blocks.specs.Scans.{is_before, is_up_to};
-ghost use Rattle.sstable_blocks.specs.Sound.{ForSound, IsSoundRun};
 
 use crate::run::{SstRunHandles, run_handles};
 use crate::window::{RunBlock, SstWindow, block_at, index_of, is_uncrossed};
 use sstable_blocks::laws::index_block_is_read;
 use sstable_blocks::run::laws::sound_opens;
 use sstable_blocks::table::block::bound::Bound;
-use sstable_blocks::table::block::intervals::Intervals;
-use sstable_blocks::table::data_block::DataBlockParsedItem;
-use sstable_blocks::{InternalValue, RunHandles, Steps};
+use sstable_blocks::{RunHandles, Steps};
 
 // A place of a run: a block, and the index of an entry in it, or the end of the block.
 #[derive(Drop)]
@@ -28,7 +25,7 @@ struct Place {
 
 // The end of a run: that of its last block.
 fn end_of(bytes: &[u8], handles: &RunHandles) -> Place
-    requires { IsSoundRun run_hashes bytes.now handles.now }
+    requires { IsSomeRun bytes.now handles.now }
     ensures place { IsPlaceIn (blocks_in bytes.now handles.now) result.block result.index }
     ensures all { count_before (blocks_in bytes.now handles.now) result.block result.index
         ≡ length (joined (blocks_in bytes.now handles.now)) }
@@ -44,14 +41,12 @@ fn end_of(bytes: &[u8], handles: &RunHandles) -> Place
 fn keys_before(part: &RunBlock<'_>, key: &[u8]) -> usize
     ensures { result ≡ counted entries.key (is_before (Included key.now)) part.now.block.items }
 {
-    Intervals::<InternalValue, DataBlockParsedItem>::new(part.block.as_slice()).position(
-        &Bound::below(key),
-    )
+    part.block.intervals().position(&Bound::below(key))
 }
 
 // The place of the first entry of a run whose key is not below one.
 fn place_of(bytes: &[u8], handles: &RunHandles, key: &[u8]) -> Place
-    requires { IsSoundRun run_hashes bytes.now handles.now }
+    requires { IsSomeRun bytes.now handles.now }
     ensures place { IsPlaceIn (blocks_in bytes.now handles.now) result.block result.index }
     ensures before { count_before (blocks_in bytes.now handles.now) result.block result.index
         ≡ counted entries.key (is_before (Included key.now))
@@ -72,7 +67,7 @@ fn place_of(bytes: &[u8], handles: &RunHandles, key: &[u8]) -> Place
 
 // The place where a range begins: that of its first key, or the start of the run.
 fn first_of(bytes: &[u8], handles: &RunHandles, has: u8, from: &[u8]) -> Place
-    requires { IsSoundRun run_hashes bytes.now handles.now }
+    requires { IsSomeRun bytes.now handles.now }
     ensures place { IsPlaceIn (blocks_in bytes.now handles.now) result.block result.index }
     ensures before { count_before (blocks_in bytes.now handles.now) result.block result.index
         ≡ counted entries.key (is_before (from_key (key_given has from.now)))
@@ -88,7 +83,7 @@ fn first_of(bytes: &[u8], handles: &RunHandles, has: u8, from: &[u8]) -> Place
 
 // The place where a range ends: that of the key before which it does, or the end of the run.
 fn last_of(bytes: &[u8], handles: &RunHandles, has: u8, to: &[u8]) -> Place
-    requires { IsSoundRun run_hashes bytes.now handles.now }
+    requires { IsSomeRun bytes.now handles.now }
     ensures place { IsPlaceIn (blocks_in bytes.now handles.now) result.block result.index }
     ensures before { count_before (blocks_in bytes.now handles.now) result.block result.index
         ≡ counted entries.key (is_up_to (before_key (key_given has to.now)))
@@ -130,9 +125,9 @@ fn window_between(first: &Place, end: &Place) -> SstWindow
 }
 
 /// Writes the window of the entries of a run with keys in a range: from a key on, if `has_from` is
-/// not 0, and up to before another, if `has_to` is not 0. The run is as for
-/// [`sst_run_get`](crate::run::sst_run_get). The window is empty where no key is in the range. No
-/// memory is taken.
+/// not 0, and up to before another, if `has_to` is not 0. The run is one that a check accepted or
+/// the library wrote, by whatever hash function. The window is empty where no key is in the range.
+/// No memory is taken.
 #[unsafe(no_mangle)]
 pub extern "C" fn sst_run_range(
     bytes: &[u8],
@@ -143,8 +138,8 @@ pub extern "C" fn sst_run_range(
     to: &[u8],
     window: &mut SstWindow,
 )
-    requires { IsSoundRun run_hashes bytes.now (handles_given handles.now) }
-    ensures { ForSound run_hashes bytes.now (handles_given handles.now) (λ blocks. IsWindowOf blocks
+    requires { IsSomeRun bytes.now (handles_given handles.now) }
+    ensures { ForSomeRun bytes.now (handles_given handles.now) (λ blocks. IsWindowOf blocks
         (keys_between (key_given has_from from.now) (key_given has_to to.now)) window.new) }
 {
     sound_opens();

@@ -5,18 +5,15 @@ ghost use Rattle.sst_c.specs.Batches.{IsScan, Lists, Passes, is_under, number_gi
 ghost use Rattle.sst_c.specs.Blocks.{IsPartAt};
 ghost use Rattle.sst_c.specs.Codes.{code_of};
 ghost use Rattle.sst_c.specs.declared.codes.Status.{Status};
-ghost use Rattle.sst_c.specs.Runs.{handles_given, run_hashes};
+ghost use Rattle.sst_c.specs.Runs.{ForSomeRun, IsSomeRun, handles_given};
 ghost use Rattle.sst_c.specs.Windows.{IsUpToPlace, IsWindow, blocks_in, left_in, stored};
 ghost use Rattle.sstable_blocks.specs.Prelude.{Entry, IsParsedEntry, entry_of, items_left};
-ghost use Rattle.sstable_blocks.specs.Sound.{ForSound, IsSoundRun};
 
 use crate::codes::Status;
 use crate::data_block::{SstPlace, place_at};
 use crate::run::{SstRunHandles, run_handles};
 use crate::window::{RunBlock, SstWindow, block_at, is_window};
-use sstable_blocks::laws::data_block_is_read;
 use sstable_blocks::run::laws::sound_opens;
-use sstable_blocks::table::block::Trailer;
 use sstable_blocks::table::data_block::{DataBlockParsedItem, Iter};
 use sstable_blocks::{RunHandles, SeqNo};
 
@@ -52,15 +49,6 @@ fn list_one(
     }
 }
 
-// The number of entries in a restart interval of a block.
-fn interval_of(part: &RunBlock<'_>) -> usize
-    ensures value { result ≡ part.now.block.interval }
-    ensures some { 0 < result }
-{
-    data_block_is_read();
-    usize::from(Trailer::new(part.block.as_slice()).interval())
-}
-
 // An iterator over the entries of a block from the one at an index on. It decodes those before it
 // in its restart interval.
 fn entries_from<'a>(part: &RunBlock<'a>, index: usize) -> Iter<'a>
@@ -68,7 +56,7 @@ fn entries_from<'a>(part: &RunBlock<'a>, index: usize) -> Iter<'a>
     ensures payload { result.payload ≡ part.now.block.payload }
     ensures left { items_left result.window ≡ drop index part.now.block.items }
 {
-    let interval = interval_of(part);
+    let interval = part.block.interval();
     let head = index / interval;
     let mut items = part.block.iter();
     items.seek_to_offset(part.block.head_offset(head));
@@ -80,8 +68,8 @@ fn entries_from<'a>(part: &RunBlock<'a>, index: usize) -> Iter<'a>
     items
 }
 
-// Goes over the entries of a block from an index on up to before another, while there is room.
-// Returns the index of the entry that it did not go over, or the end.
+// Lists entries of a block, from an index on up to before another, while there is room. Returns the
+// index of the first entry that it did not examine, or the end.
 fn list_front(
     bytes: &[u8],
     part: &RunBlock<'_>,
@@ -170,7 +158,7 @@ fn list_back(
         (reverse (items_left (record { list = part.now.block.items; lo = result; hi = to })))
         places.old places.new count.old count.new }
 {
-    let interval = interval_of(part);
+    let interval = part.block.interval();
     let mut at = to;
     while from < at && *count < places.len() {
         let next = begin_before(from, at, interval, places.len() - *count);
@@ -180,7 +168,8 @@ fn list_back(
     at
 }
 
-/// Goes over the entries of the first block of a window up to an index, while there is room.
+/// Lists entries of the first block of a window up to an index, while there is room, and moves the
+/// front of the window.
 pub(crate) fn pass_front(
     bytes: &[u8],
     part: &RunBlock<'_>,
@@ -233,7 +222,7 @@ pub(crate) fn pass_back(
     window.end_index = list_back(bytes, part, from, window.end_index, below, places, count);
 }
 
-// Goes over a window from the front, block by block, while there is room.
+// Lists entries of a window from the front, block by block, while there is room.
 fn scan_front(
     bytes: &[u8],
     handles: &RunHandles,
@@ -242,7 +231,7 @@ fn scan_front(
     places: &mut [SstPlace],
     count: &mut usize,
 )
-    requires sound { IsSoundRun run_hashes bytes.now handles.now }
+    requires sound { IsSomeRun bytes.now handles.now }
     requires window { IsWindow (blocks_in bytes.now handles.now) window.old }
     requires room { count.old ≤ length places.old }
     ensures passes { Passes bytes.now (blocks_in bytes.now handles.now) below false window.old
@@ -265,7 +254,7 @@ fn scan_front(
     pass_front(bytes, &part, window, end, below, places, count);
 }
 
-// Goes over a window from the back, block by block, while there is room.
+// Lists entries of a window from the back, block by block, while there is room.
 fn scan_back(
     bytes: &[u8],
     handles: &RunHandles,
@@ -274,7 +263,7 @@ fn scan_back(
     places: &mut [SstPlace],
     count: &mut usize,
 )
-    requires sound { IsSoundRun run_hashes bytes.now handles.now }
+    requires sound { IsSomeRun bytes.now handles.now }
     requires window { IsWindow (blocks_in bytes.now handles.now) window.old }
     requires room { count.old ≤ length places.old }
     ensures passes { Passes bytes.now (blocks_in bytes.now handles.now) below true window.old
@@ -306,7 +295,7 @@ fn scan(
     places: &mut [SstPlace],
     count: &mut usize,
 ) -> Status
-    requires { IsSoundRun run_hashes bytes.now handles.now }
+    requires { IsSomeRun bytes.now handles.now }
     ensures { IsScan bytes.now (blocks_in bytes.now handles.now) below back window.old window.new
         places.old places.new count.old count.new result }
 {
@@ -331,9 +320,9 @@ pub(crate) fn number_of(has: u8, number: u64) -> Option<u64>
 
 /// Lists the next entries of a window of a run, of those with a sequence number strictly below one
 /// if `has_below` is not 0: the first of them, or from the back where `reverse` is not 0, the last
-/// one first. The run is as for [`sst_run_get`](crate::run::sst_run_get). No memory is taken, and
-/// nothing is copied. The end of the window that it goes from is moved over the entries that it
-/// went past.
+/// one first. The run is one that a check accepted or the library wrote, by whatever hash function.
+/// No memory is taken, and nothing is copied. The end of the window that it goes from is moved over
+/// the entries that it went past.
 ///
 /// Returns 0 and the number of entries, each of which has its place then, and leaves the places
 /// after them: all of the window's, or as many as there are places. Or 17 where the window is none
@@ -349,9 +338,9 @@ pub extern "C" fn sst_run_scan(
     places: &mut [SstPlace],
     count: &mut usize,
 ) -> u32
-    requires { IsSoundRun run_hashes bytes.now (handles_given handles.now) }
+    requires { IsSomeRun bytes.now (handles_given handles.now) }
     ensures { (s : Status) × (result ≡ code_of s)
-        × ForSound run_hashes bytes.now (handles_given handles.now)
+        × ForSomeRun bytes.now (handles_given handles.now)
         (λ blocks. IsScan bytes.now (stored blocks) (number_given has_below below_seqno)
         (nat_lt 0 reverse) window.old window.new places.old places.new count.old count.new s) }
 {

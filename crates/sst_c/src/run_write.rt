@@ -2,11 +2,11 @@
 ghost use Rattle.std.specs.Prelude.{◌≡◌, ◌⊎◌, ◌+◌, ◌≤◌, ◌<◌, ◌++◌, List, length, map, drop};
 ghost use Rattle.std.specs.Prelude.{IfOk, IfErr, IfSome, IsNone, OnOk};
 ghost use Rattle.std.specs.List.{AllByRecursion};
-ghost use Rattle.xxh3.specs.Xxh3.{xxh3_64};
 ghost use Rattle.sst_c.specs.Codes.{code_of};
-ghost use Rattle.sst_c.specs.Given.{CanEncode, IsWrittenOut};
+ghost use Rattle.sst_c.specs.Given.{AreKept, CanEncode, IsWrittenOut};
+ghost use Rattle.sst_c.specs.Hashing.{IsHashed, hash_given, hashes_of};
 ghost use Rattle.sst_c.specs.Index.{handle_given};
-ghost use Rattle.sst_c.specs.RunWrites.{frames_length, AreHashedIf, AreOfBlocks};
+ghost use Rattle.sst_c.specs.RunWrites.{frames_length, AreHashedIf};
 ghost use Rattle.sst_c.specs.RunWrites.{CanEnd, CanWriteBlock, EndFitsRun, EndsRun, FilterFits};
 ghost use Rattle.sst_c.specs.RunWrites.{IsBlockWrite, IsEndWrite, IsFilterAppended, IsPartAppended};
 ghost use Rattle.sst_c.specs.RunWrites.{IsRunEnd};
@@ -15,7 +15,7 @@ ghost use Rattle.sst_c.specs.declared.codes.Status.{Status};
 ghost use Rattle.sst_c.specs.declared.codes.Status.TheVariants.{Failed, BadArgument};
 ghost use Rattle.sst_c.specs.declared.entries.SstEntry.{SstEntry};
 ghost use Rattle.sst_c.specs.declared.handles.SstKeyedHandle.{SstKeyedHandle};
-ghost use Rattle.sstable_blocks.specs.Prelude.{Entry, EndFits};
+ghost use Rattle.sstable_blocks.specs.Prelude.{Entry, EndFits, hashes as run_hashes};
 ghost use Rattle.sstable_blocks.specs.Results.{Memory, TooLong};
 ghost use Rattle.sstable_blocks.specs.Run.{block_frame, block_payload, IsFramed};
 ghost use Rattle.sstable_blocks.specs.Sound.{AreContiguous};
@@ -26,44 +26,36 @@ use crate::data_block::checked_items;
 use crate::entries::SstEntry;
 use crate::filter::payload_of_hashes;
 use crate::handles::SstKeyedHandle;
+use crate::hash::Hash;
 use crate::index_block;
 use crate::output::write_bytes;
 use crate::run::{SstRunConfig, SstRunHandles, config_of, tell};
 use sstable_blocks::run::laws::handles_are_ready;
-use sstable_blocks::table::block::header::HEADER_LEN;
+use sstable_blocks::run::write_part;
 use sstable_blocks::table::filter::policy::BloomConstructionPolicy;
 use sstable_blocks::{
-    Block, BlockHandle, BlockHash, BlockOffset, BlockType, DataBlock, EntryView, Error, IndexBlock,
-    KeyedBlockHandle, RunConfig, RunHandles, Xxh3,
+    BlockHandle, BlockHash, BlockType, DataBlock, EntryView, Error, IndexBlock, KeyedBlockHandle,
+    Poly31, RunConfig, RunHandles, Xxh3,
 };
 use std::alloc::Global;
 
-// The greatest length of a payload with a handle: its frame has at most 2^32 - 1 bytes.
-const MAX_PAYLOAD: usize = 4294967262;
-
 // Appends the frame of a payload, which begins at an offset of the run. Returns its handle, and the
 // offset after it.
-fn append_frame(
+fn append_frame<H: BlockHash>(
     bytes: &mut Vec<u8>,
     payload: &[u8],
     block_type: BlockType,
     offset: u64,
 ) -> Result<(BlockHandle, u64), Error>
-    ensures appended { IfOk result (λ r. IsPartAppended block_type offset payload.now
+    ensures appended { IfOk result (λ r. IsPartAppended H.hash128 block_type offset payload.now
         bytes.old.items bytes.new.items r.0) }
     ensures end { IfOk result (λ r. r.1 ≡ offset + (33 + length payload.now)) }
     ensures cause { IfErr result
         (λ e. (e ≡ Memory) ⊎ ((e ≡ TooLong) × (PartFits offset payload.now → ⊥))) }
 {
-    if payload.len() > MAX_PAYLOAD {
-        return Err(Error::TooLong);
-    }
-    let size = (HEADER_LEN + payload.len()) as u32;
-    let Some(end) = offset.checked_add(u64::from(size)) else {
-        return Err(Error::TooLong);
-    };
-    match Block::write_into::<Xxh3, Vec<u8>>(bytes, payload, block_type) {
-        Ok(_) => Ok((BlockHandle::new(BlockOffset(offset), size), end)),
+    match write_part::<H, Vec<u8>>(bytes, payload, block_type, offset) {
+        Ok(part) => Ok(part),
+        Err(Error::TooLong) => Err(Error::TooLong),
         // A vector fails as a writer where its allocation does.
         Err(_) => Err(Error::Memory),
     }
@@ -71,29 +63,35 @@ fn append_frame(
 
 // The frame of the block of entries.
 #[tactic(auto, unfolding(sstable_blocks::specs::Run::block_payload))]
-fn frame_of(alloc: Global, items: &[EntryView<'_>], config: &RunConfig) -> Result<Vec<u8>, Error>
+fn frame_of<H: BlockHash>(
+    alloc: Global,
+    items: &[EntryView<'_>],
+    config: &RunConfig,
+) -> Result<Vec<u8>, Error>
     requires { (given : List SstEntry)
         × CanEncode given config.now.restart_interval config.now.ratio.den items.now }
-    ensures ok { IfOk result (λ v. v.items ≡ block_frame (run_form config.now) items.now) }
-    ensures fits { OnOk result (IsFramed (block_payload (run_form config.now) items.now)) }
-    ensures cause { IfErr result (λ e. (e ≡ Memory) ⊎ ((e ≡ TooLong)
-        × (IsFramed (block_payload (run_form config.now) items.now) → ⊥))) }
+    ensures ok { IfOk result (λ v. v.items
+        ≡ block_frame (run_form (run_hashes H.hash64 H.hash128) config.now) items.now) }
+    ensures fits { OnOk result (IsFramed
+        (block_payload (run_form (run_hashes H.hash64 H.hash128) config.now) items.now)) }
+    ensures cause { IfErr result (λ e. (e ≡ Memory) ⊎ ((e ≡ TooLong) × (IsFramed
+        (block_payload (run_form (run_hashes H.hash64 H.hash128) config.now) items.now) → ⊥))) }
 {
     let mut payload = Vec::new(alloc);
-    DataBlock::<Xxh3>::encode_into(&mut payload, items, config.restart_interval, config.ratio)?;
+    DataBlock::<H>::encode_into(&mut payload, items, config.restart_interval, config.ratio)?;
     let mut bytes = Vec::new(alloc);
-    append_frame(&mut bytes, payload.as_slice(), BlockType::Data, 0)?;
+    append_frame::<H>(&mut bytes, payload.as_slice(), BlockType::Data, 0)?;
     Ok(bytes)
 }
 
 // Writes the hash of the key of each entry at the front of an array.
-fn write_hashes(entries: &[SstEntry<'_>], hashes: &mut [u64])
+fn write_hashes<H: BlockHash>(entries: &[SstEntry<'_>], hashes: &mut [u64])
     requires { length entries.now ≤ length hashes.old }
-    ensures { hashes.new ≡ map (λ e. xxh3_64 e.key.now) entries.now
+    ensures { hashes.new ≡ map (λ e. H.hash64 e.key.now) entries.now
         ++ drop (length entries.now) hashes.old }
 {
     for i in 0..entries.len() {
-        hashes[i] = Xxh3::hash64(entries[i].key);
+        hashes[i] = H::hash64(entries[i].key);
     }
 }
 
@@ -114,8 +112,9 @@ fn block_items<'a>(
     checked_items(alloc, entries, config.restart_interval, config.ratio)
 }
 
-// Writes the frame of a block into a buffer, if it has the capacity, and then the hashes of its keys.
-fn write_hashed(
+// Writes the frame of a block into a buffer, if it has the capacity, and then the hashes of its
+// keys.
+fn write_hashed<H: BlockHash>(
     frame: &[u8],
     entries: &[SstEntry<'_>],
     bits: u32,
@@ -125,13 +124,13 @@ fn write_hashed(
 ) -> Status
     requires { 1 ≤ bits → length entries.now ≤ length hashes.old }
     ensures written { IsWrittenOut frame.now out.old out.new out_len.new result }
-    ensures hashed { AreHashedIf bits (map (λ e. xxh3_64 e.key.now) entries.now) hashes.old
+    ensures hashed { AreHashedIf bits (map (λ e. H.hash64 e.key.now) entries.now) hashes.old
         hashes.new result }
 {
     match write_bytes(frame, out, out_len) {
         Status::Done => {
             if bits > 0 {
-                write_hashes(entries, hashes);
+                write_hashes::<H>(entries, hashes);
             }
             Status::Done
         }
@@ -140,7 +139,7 @@ fn write_hashed(
 }
 
 // Writes the block of the entries that are given into a buffer, and the hashes of their keys.
-fn write_block(
+fn write_block<H: BlockHash>(
     alloc: Global,
     entries: &[SstEntry<'_>],
     config: &RunConfig,
@@ -148,16 +147,38 @@ fn write_block(
     out_len: &mut usize,
     hashes: &mut [u64],
 ) -> Status
-    ensures { IsBlockWrite entries.now config.now out.old out.new out_len.old out_len.new
-        hashes.old hashes.new result }
+    ensures { IsBlockWrite (run_hashes H.hash64 H.hash128) entries.now config.now out.old out.new
+        out_len.old out_len.new hashes.old hashes.new result }
 {
     let items = match block_items(alloc, entries, config, hashes.len()) {
         Ok(items) => items,
         Err(status) => return status,
     };
-    match frame_of(alloc, items.as_slice(), config) {
-        Ok(frame) => write_hashed(&frame, entries, config.bits_per_key, out, out_len, hashes),
+    match frame_of::<H>(alloc, items.as_slice(), config) {
+        Ok(frame) => write_hashed::<H>(&frame, entries, config.bits_per_key, out, out_len, hashes),
         Err(error) => Status::Failed(error),
+    }
+}
+
+// The same by the hash function that is given.
+fn write_block_by(
+    hash: Option<Hash>,
+    alloc: Global,
+    entries: &[SstEntry<'_>],
+    config: &RunConfig,
+    out: &mut [u8],
+    out_len: &mut usize,
+    hashes: &mut [u64],
+) -> Status
+    ensures { IsHashed hash result
+        (AreKept out.old out.new out_len.old out_len.new × (hashes.new ≡ hashes.old))
+        (λ h. IsBlockWrite (hashes_of h) entries.now config.now out.old out.new out_len.old
+        out_len.new hashes.old hashes.new result) }
+{
+    match hash {
+        Some(Hash::Xxh3) => write_block::<Xxh3>(alloc, entries, config, out, out_len, hashes),
+        Some(Hash::Poly31) => write_block::<Poly31>(alloc, entries, config, out, out_len, hashes),
+        None => Status::BadArgument,
     }
 }
 
@@ -167,10 +188,11 @@ fn write_block(
 /// the entries' keys too, in their order, at the front of `hashes`, if there are bits for a filter.
 ///
 /// Returns 0, and the length of the frame, which is then the front of `out`; 18 where `out` is too
-/// short, and the length that is needed; 17 exactly where the entries can't be written so: none, one
-/// that is not an entry, out of order, an interval or a denominator of 0, or, if there are bits,
-/// fewer elements of `hashes` than entries; 6 only where the block has more than 4294967262 bytes;
-/// 15 if an allocation fails. But for 0 `out` and `hashes` are left, and but for 0 and 18 `out_len`.
+/// short, and the length that is needed; 17 exactly where the entries can't be written so: none,
+/// one that is not an entry, out of order, an interval or a denominator of 0, the number of no hash
+/// function, or, if there are bits, fewer elements of `hashes` than entries; 6 only where the block
+/// has more than 4294967262 bytes; 15 if an allocation fails. But for 0 `out` and `hashes` are
+/// left, and but for 0 and 18 `out_len`.
 #[unsafe(no_mangle)]
 pub extern "C" fn sst_run_block_write(
     entries: &[SstEntry<'_>],
@@ -180,16 +202,26 @@ pub extern "C" fn sst_run_block_write(
     hashes: &mut [u64],
     alloc: Global,
 ) -> u32
-    ensures { (s : Status) × (result ≡ code_of s)
-        × IsBlockWrite entries.now (config_given config.now) out.old out.new out_len.old
-        out_len.new hashes.old hashes.new s }
+    ensures { (s : Status) × (result ≡ code_of s) × IsHashed (hash_given config.now.hash) s
+        (AreKept out.old out.new out_len.old out_len.new × (hashes.new ≡ hashes.old))
+        (λ h. IsBlockWrite (hashes_of h) entries.now (config_given config.now) out.old out.new
+        out_len.old out_len.new hashes.old hashes.new s) }
 {
-    write_block(alloc, entries, &config_of(config), out, out_len, hashes).code()
+    write_block_by(
+        Hash::of_number(u32::from(config.hash)),
+        alloc,
+        entries,
+        &config_of(config),
+        out,
+        out_len,
+        hashes,
+    )
+    .code()
 }
 
 // Appends the frame of the filter of hashes, if there are bits, which begins at an offset of the
 // run. Returns its handle.
-fn append_filter(
+fn append_filter<H: BlockHash>(
     alloc: Global,
     bytes: &mut Vec<u8>,
     hashes: &[u64],
@@ -197,8 +229,8 @@ fn append_filter(
     offset: u64,
 ) -> Result<Option<BlockHandle>, Error>
     requires { 1 ≤ bits → 1 ≤ length hashes.now }
-    ensures appended { IfOk result (λ h. IsFilterAppended bits hashes.now offset bytes.old.items
-        bytes.new.items h) }
+    ensures appended { IfOk result (λ h. IsFilterAppended H.hash128 bits hashes.now offset
+        bytes.old.items bytes.new.items h) }
     ensures cause { IfErr result (λ e. (e ≡ Memory)
         ⊎ ((e ≡ TooLong) × (FilterFits bits (length hashes.now) offset → ⊥))) }
 {
@@ -209,12 +241,12 @@ fn append_filter(
         return Err(Error::TooLong);
     }
     let payload = payload_of_hashes(alloc, hashes, bits)?;
-    let (handle, _) = append_frame(bytes, &payload, BlockType::Filter, offset)?;
+    let (handle, _) = append_frame::<H>(bytes, &payload, BlockType::Filter, offset)?;
     Ok(Some(handle))
 }
 
 // The index of handles and the filter of hashes, whose frames begin at an offset of the run.
-fn end_of(
+fn end_of<H: BlockHash>(
     alloc: Global,
     items: &[KeyedBlockHandle],
     offset: u64,
@@ -224,16 +256,17 @@ fn end_of(
     requires can { (given : List SstKeyedHandle) × (items.now ≡ map handle_given given)
         × CanEnd given hashes.now config.now }
     requires offset { offset ≡ frames_length items.now }
-    ensures ok { IfOk result (λ r. IsRunEnd (run_form config.now) items.now hashes.now r.0.items
-        r.1) }
+    ensures ok { IfOk result (λ r. IsRunEnd (run_form (run_hashes H.hash64 H.hash128) config.now)
+        items.now hashes.now r.0.items r.1) }
     ensures filter { IfOk result (λ r. IfSome r.1.filter (λ f. 0 < f.size)) }
     ensures cause { IfErr result (λ e. (e ≡ Memory) ⊎ ((e ≡ TooLong)
-        × (EndFitsRun (run_form config.now) items.now (length hashes.now) → ⊥))) }
+        × (EndFitsRun (run_form (run_hashes H.hash64 H.hash128) config.now) items.now
+        (length hashes.now) → ⊥))) }
 {
     let payload = IndexBlock::encode_into_vec_with(alloc, items, config.index_interval)?;
     let mut bytes = Vec::new(alloc);
-    let (index, end) = append_frame(&mut bytes, &payload, BlockType::Index, offset)?;
-    let filter = append_filter(alloc, &mut bytes, hashes, config.bits_per_key, end)?;
+    let (index, end) = append_frame::<H>(&mut bytes, &payload, BlockType::Index, offset)?;
+    let filter = append_filter::<H>(alloc, &mut bytes, hashes, config.bits_per_key, end)?;
     Ok((bytes, RunHandles { index, filter }))
 }
 
@@ -281,7 +314,7 @@ fn end_items(
 }
 
 // Writes the end of a run into a buffer.
-fn write_end(
+fn write_end<H: BlockHash>(
     alloc: Global,
     given: &[SstKeyedHandle<'_>],
     hashes: &[u64],
@@ -290,36 +323,86 @@ fn write_end(
     out_len: &mut usize,
     run_handles: &mut SstRunHandles,
 ) -> Status
-    ensures { IsEndWrite given.now hashes.now config.now out.old out.new out_len.old out_len.new
-        run_handles.old run_handles.new result }
+    ensures { IsEndWrite (run_hashes H.hash64 H.hash128) given.now hashes.now config.now out.old
+        out.new out_len.old out_len.new run_handles.old run_handles.new result }
 {
     let (items, offset) = match end_items(alloc, given, hashes, config) {
         Ok(found) => found,
         Err(status) => return status,
     };
-    match end_of(alloc, items.as_slice(), offset, hashes, config) {
+    match end_of::<H>(alloc, items.as_slice(), offset, hashes, config) {
         Ok((bytes, handles)) => tell(&bytes, &handles, out, out_len, run_handles),
         Err(error) => Status::Failed(error),
     }
 }
 
+// Writes the end of a run into a buffer, which after the frames of blocks makes these a run.
+fn end_run<H: BlockHash>(
+    alloc: Global,
+    given: &[SstKeyedHandle<'_>],
+    hashes: &[u64],
+    config: &RunConfig,
+    out: &mut [u8],
+    out_len: &mut usize,
+    run_handles: &mut SstRunHandles,
+) -> Status
+    ensures written { IsEndWrite (run_hashes H.hash64 H.hash128) given.now hashes.now config.now
+        out.old out.new out_len.old out_len.new run_handles.old run_handles.new result }
+    ensures ends { EndsRun (run_form (run_hashes H.hash64 H.hash128) config.now)
+        (map handle_given given.now) hashes.now out.new out_len.new run_handles.new result }
+{
+    handles_are_ready();
+    // An interval has 8 bits.
+    let (_restart, _index) = (config.restart_interval, config.index_interval);
+    write_end::<H>(alloc, given, hashes, config, out, out_len, run_handles)
+}
+
+// The same by the hash function that is given.
+fn end_run_by(
+    hash: Option<Hash>,
+    alloc: Global,
+    given: &[SstKeyedHandle<'_>],
+    hashes: &[u64],
+    config: &RunConfig,
+    out: &mut [u8],
+    out_len: &mut usize,
+    run_handles: &mut SstRunHandles,
+) -> Status
+    ensures { IsHashed hash result
+        (AreKept out.old out.new out_len.old out_len.new × (run_handles.new ≡ run_handles.old))
+        (λ h. IsEndWrite (hashes_of h) given.now hashes.now config.now out.old out.new out_len.old
+        out_len.new run_handles.old run_handles.new result
+        × EndsRun (run_form (hashes_of h) config.now) (map handle_given given.now) hashes.now
+        out.new out_len.new run_handles.new result) }
+{
+    match hash {
+        Some(Hash::Xxh3) => {
+            end_run::<Xxh3>(alloc, given, hashes, config, out, out_len, run_handles)
+        }
+        Some(Hash::Poly31) => {
+            end_run::<Poly31>(alloc, given, hashes, config, out, out_len, run_handles)
+        }
+        None => Status::BadArgument,
+    }
+}
+
 /// Ends a run whose blocks are written: writes the frames of their index and of the filter, which
-/// follow the blocks' frames. `handles` has a handle for each block, in their order: the key and the
-/// sequence number of its last entry, and where its frame is. `hashes` has the hashes of all keys,
-/// in the order of the blocks; without bits for a filter none is examined.
+/// follow the blocks' frames. `handles` has a handle for each block, in their order: the key and
+/// the sequence number of its last entry, and where its frame is. `hashes` has the hashes of all
+/// keys, in the order of the blocks; without bits for a filter none is examined.
 ///
 /// Where each block is written by [`sst_run_block_write`] with this configuration, and none begins
 /// with an entry that sorts before the last one of the block before, the frames of the blocks, and
 /// then what this call writes, are the run of these blocks, as
 /// [`sst_run_write`](crate::run::sst_run_write) writes it.
 ///
-/// Returns 0, the number of bytes, which are then the front of `out`, and the handles of the run; 18
-/// where `out` is too short, and the length that is needed; 17 exactly where no run can end so: no
-/// handle, an end key of more than 65535 bytes, handles out of order, frames that do not follow each
-/// other from offset 0, one that ends at 2^64 or above, an interval or a denominator of 0, or, if
-/// there are bits, no hash; 6 only where the index has more than 4294967262 bytes, the filter more
-/// than 34359737920 bits, or all frames 2^64 bytes or more; 15 if an allocation fails. But for 0
-/// `out` and `run_handles` are left, and but for 0 and 18 `out_len`.
+/// Returns 0, the number of bytes, which are then the front of `out`, and the handles of the run;
+/// 18 where `out` is too short, and the length that is needed; 17 exactly where no run can end so:
+/// no handle, an end key of more than 65535 bytes, handles out of order, frames that do not follow
+/// each other from offset 0, one that ends at 2^64 or above, an interval or a denominator of 0, the
+/// number of no hash function, or, if there are bits, no hash; 6 only where the index has more than
+/// 4294967262 bytes, the filter more than 34359737920 bits, or all frames 2^64 bytes or more; 15 if
+/// an allocation fails. But for 0 `out` and `run_handles` are left, and but for 0 and 18 `out_len`.
 #[unsafe(no_mangle)]
 pub extern "C" fn sst_run_end_write(
     handles: &[SstKeyedHandle<'_>],
@@ -330,19 +413,15 @@ pub extern "C" fn sst_run_end_write(
     run_handles: &mut SstRunHandles,
     alloc: Global,
 ) -> u32
-    ensures { (s : Status) × (result ≡ code_of s)
-        × IsEndWrite handles.now hashes.now (config_given config.now) out.old out.new out_len.old
-        out_len.new run_handles.old run_handles.new s
-        × ((blocks : List (List Entry))
-        → AreOfBlocks (run_form (config_given config.now)) blocks (map handle_given handles.now)
-        hashes.now
-        → EndsRun (run_form (config_given config.now)) blocks out.new out_len.new run_handles.new
-        s) }
+    ensures { (s : Status) × (result ≡ code_of s) × IsHashed (hash_given config.now.hash) s
+        (AreKept out.old out.new out_len.old out_len.new × (run_handles.new ≡ run_handles.old))
+        (λ h. IsEndWrite (hashes_of h) handles.now hashes.now (config_given config.now) out.old
+        out.new out_len.old out_len.new run_handles.old run_handles.new s
+        × EndsRun (run_form (hashes_of h) (config_given config.now)) (map handle_given handles.now)
+        hashes.now out.new out_len.new run_handles.new s) }
 {
-    handles_are_ready();
-    // An interval has 8 bits.
-    let (_restart, _index) = (config.restart_interval, config.index_interval);
-    write_end(
+    end_run_by(
+        Hash::of_number(u32::from(config.hash)),
         alloc,
         handles,
         hashes,

@@ -1,20 +1,17 @@
 //! Windows of runs: what a scan has left, as numbers that the caller keeps.
 ghost use Rattle.std.specs.Prelude.{◌≡◌, ◌↔◌, ◌<◌, ◌≤◌, ℕ, List, IsTrue, length, slice_get, Some};
 ghost use Rattle.std.specs.Prelude.{false};
-ghost use Rattle.sst_c.specs.Blocks.{IsPartAt};
-ghost use Rattle.sst_c.specs.Runs.{run_hashes};
+ghost use Rattle.sst_c.specs.Blocks.{IsPartAt, IsSomeDataBlock};
+ghost use Rattle.sst_c.specs.Runs.{IsSomeRun};
 ghost use Rattle.sst_c.specs.Windows.{IsPlaceIn, IsUpToPlace, IsWindow, blocks_in};
 ghost use Rattle.sstable_blocks.specs.Opened.{IsFrameRange, index_in, payload_in};
-ghost use Rattle.sstable_blocks.specs.Prelude.{Entry, IsBlock, IsEntry, data_ref_of, entries};
-ghost use Rattle.sstable_blocks.specs.Prelude.{items_in};
-ghost use Rattle.sstable_blocks.specs.Sound.{IsSoundRun};
-ghost use Rattle.xxh3.specs.Xxh3.{xxh3_64};
+ghost use Rattle.sstable_blocks.specs.Prelude.{data_ref_of, entries, items_in};
 
+use crate::block_view::BlockView;
 use crate::run::{payload_of, start_of};
 use sstable_blocks::run::laws::sound_opens;
-use sstable_blocks::table::data_block::DataBlockRef;
 use sstable_blocks::table::index_block::IndexBlockRef;
-use sstable_blocks::{BlockHandle, RunHandles, Steps, Xxh3};
+use sstable_blocks::{BlockHandle, RunHandles, Steps};
 
 /// What a scan of a run has left: the entries from a first place on up to, not including, an end.
 /// A place is the index of a block, and the index of an entry in it, or the number of its entries
@@ -36,14 +33,14 @@ pub struct SstWindow {
 #[derive(Drop)]
 pub(crate) struct RunBlock<'a> {
     pub(crate) start: usize,
-    pub(crate) block: DataBlockRef<'a, Xxh3>,
+    pub(crate) block: BlockView<'a>,
     ghost read: { block ≡ data_ref_of block.payload false },
 }
 
 /// The index of a sound run.
 #[tactic(auto, using(sstable_blocks::specs::RunLaws::payload_fits))]
 pub(crate) fn index_of<'a>(bytes: &'a [u8], handles: &RunHandles) -> IndexBlockRef<'a>
-    requires { IsSoundRun run_hashes bytes.now handles.now }
+    requires { IsSomeRun bytes.now handles.now }
     ensures { result.items ≡ index_in bytes.now handles.now.index }
 {
     sound_opens();
@@ -54,38 +51,38 @@ pub(crate) fn index_of<'a>(bytes: &'a [u8], handles: &RunHandles) -> IndexBlockR
 
 // The frame of the block at an index of a run.
 fn frame_of(bytes: &[u8], handles: &RunHandles, block: usize) -> BlockHandle
-    requires sound { IsSoundRun run_hashes bytes.now handles.now }
+    requires sound { IsSomeRun bytes.now handles.now }
     requires inside { block < length (index_in bytes.now handles.now.index) }
     ensures range { IsFrameRange bytes.now result }
-    ensures is_block { (items : List Entry) × (r : ℕ) × (b : ℕ)
-        × IsBlock entries IsEntry xxh3_64 (payload_in bytes.now result) items r b }
+    ensures is_block { IsSomeDataBlock (payload_in bytes.now result) }
     ensures items { slice_get (blocks_in bytes.now handles.now) block
         ≡ Some (items_in entries (payload_in bytes.now result)) }
 {
     sound_opens();
-    index_of(bytes, handles).handle_at(block, &mut Steps::new())
+    let frame = index_of(bytes, handles).handle_at(block, &mut Steps::new());
+    // A size has 32 bits.
+    let _fits = frame.size();
+    frame
 }
 
 /// The block at an index of a run.
 #[tactic(auto, using(sstable_blocks::specs::RunLaws::payload_fits))]
 pub(crate) fn block_at<'a>(bytes: &'a [u8], handles: &RunHandles, block: usize) -> RunBlock<'a>
-    requires sound { IsSoundRun run_hashes bytes.now handles.now }
+    requires sound { IsSomeRun bytes.now handles.now }
     requires inside { block < length (index_in bytes.now handles.now.index) }
     ensures part { IsPartAt bytes.now result.start result.block.payload }
     ensures items { slice_get (blocks_in bytes.now handles.now) block ≡ Some result.block.items }
 {
     let frame = frame_of(bytes, handles, block);
-    // A size has 32 bits.
-    let _fits = frame.size();
     RunBlock {
         start: start_of(bytes, &frame),
-        block: DataBlockRef::new(payload_of(bytes, &frame)),
+        block: BlockView::new(payload_of(bytes, &frame)),
     }
 }
 
 // Whether a run has a place.
 fn has_place(bytes: &[u8], handles: &RunHandles, block: usize, index: usize) -> bool
-    requires { IsSoundRun run_hashes bytes.now handles.now }
+    requires { IsSomeRun bytes.now handles.now }
     ensures { IsTrue result ↔ IsPlaceIn (blocks_in bytes.now handles.now) block index }
 {
     if index_of(bytes, handles).len() <= block {
@@ -105,7 +102,7 @@ pub(crate) fn is_uncrossed(window: &SstWindow) -> bool
 
 /// Whether numbers are a window of a run.
 pub(crate) fn is_window(bytes: &[u8], handles: &RunHandles, window: &SstWindow) -> bool
-    requires { IsSoundRun run_hashes bytes.now handles.now }
+    requires { IsSomeRun bytes.now handles.now }
     ensures { IsTrue result ↔ IsWindow (blocks_in bytes.now handles.now) window.now }
 {
     is_uncrossed(window)

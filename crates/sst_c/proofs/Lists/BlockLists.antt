@@ -2,7 +2,6 @@
 use Rattle.std.proofs.Common.{◌≡◌, ◌∙◌, ℕ, List, Option, None, Some, refl, sym, ap, subst}
 use Rattle.std.specs.Prelude.{slice_get}
 use Rattle.std.specs.Option.{option_map}
-use Rattle.xxh3.specs.Xxh3.{xxh3_64}
 use Rattle.sstable_blocks.specs.Prelude.{HandleParts, Entry, Handle}
 use Rattle.sstable_blocks.specs.BlockLaws.{handle_range}
 use Rattle.sstable_blocks.specs.Opened.{IsOpen, Opened, index_in}
@@ -13,10 +12,10 @@ some_range None k e = cc
 some_range (Some g) k e = (g, refl, cc)
 
 -- the handle at an index of the index leads to the block at that index
-pub block_here : (blocks : List (List Entry)) (bytes : List ℕ) (h : RunHandles) (items : List Handle) (n : ℕ) (k : HandleParts)
-    → Opened xxh3_64 blocks bytes h → items ≡ index_in bytes h.index → Some k ≡ option_map handle_range (slice_get items n)
-    → (block : List Entry) × (slice_get blocks n ≡ Some block) × IsOpen xxh3_64 bytes k block
-block_here blocks bytes h items n k o same at =
+pub block_here : (hash : List ℕ → ℕ) (blocks : List (List Entry)) (bytes : List ℕ) (h : RunHandles) (items : List Handle) (n : ℕ) (k : HandleParts)
+    → Opened hash blocks bytes h → items ≡ index_in bytes h.index → Some k ≡ option_map handle_range (slice_get items n)
+    → (block : List Entry) × (slice_get blocks n ≡ Some block) × IsOpen hash bytes k block
+block_here hash blocks bytes h items n k o same at =
     let found = some_range (slice_get (index_in bytes h.index) n) k (ap (λ xs. option_map handle_range (slice_get xs n)) (sym same) ∙ sym at) in
     let there = o.block_open n found.0 found.1 in
-    (there.0, there.1, subst (λ r. IsOpen xxh3_64 bytes r there.0) found.2 there.2)
+    (there.0, there.1, subst (λ r. IsOpen hash bytes r there.0) found.2 there.2)

@@ -13,29 +13,28 @@ use Rattle.sstable_blocks.specs.Prelude.{Handle, HandleParts, IsBytes, IsIndexBl
 use Rattle.sstable_blocks.specs.Results.{Error}
 use Rattle.sstable_blocks.specs.RunChecks.{check_block, filter_in_run, none_passed}
 use Rattle.sstable_blocks.specs.RunLaws.{payload_fits}
-use Rattle.sstable_blocks.specs.RunReading.{handles_at, payload_at}
+use Rattle.sstable_blocks.specs.RunReading.{Hashes, handles_at, payload_at}
 use Rattle.sstable_blocks.specs.Sources.{filter_frames}
 use Rattle.sstable_blocks.specs.Walks.{frames_after, walk_frames}
 use Rattle.sstable_blocks.specs.declared.run.RunHandles.{RunHandles}
 use Rattle.sst_c.specs.CheckEnds.{IsFrameOf, IsLastFrame}
-use Rattle.sst_c.specs.Runs.{run_hashes}
 use Rattle.sst_c.specs.declared.run_check.SstCheckEnd.{SstCheckEnd}
 use Rattle.sst_c.proofs.Lists.BlockLists.{some_range}
 
 -- handles that are read are those of the index in the range of a handle
-pub index_read : (bytes : List ℕ) (h : HandleParts) (hs : List Handle) → IsBytes bytes → handles_at run_hashes bytes h ≡ Ok hs → IsFrameRange bytes h × (index_check (payload_in bytes h) ≡ Ok hs) × IsBytes (payload_in bytes h)
-index_read bytes h hs small e =
-    let found = bind_ok (payload_at run_hashes Index bytes h) index_check hs e in
-    let framed = payload_at_takes run_hashes Index bytes h found.0 small found.1 in
-    let at = frame_range run_hashes Index bytes found.0 h framed in
-    (at.0, ap index_check at.1 ∙ found.2, subst IsBytes (sym at.1) (framed_bytes run_hashes Index bytes found.0 h small framed))
+pub index_read : (c : Hashes) (bytes : List ℕ) (h : HandleParts) (hs : List Handle) → IsBytes bytes → handles_at c bytes h ≡ Ok hs → IsFrameRange bytes h × (index_check (payload_in bytes h) ≡ Ok hs) × IsBytes (payload_in bytes h)
+index_read c bytes h hs small e =
+    let found = bind_ok (payload_at c Index bytes h) index_check hs e in
+    let framed = payload_at_takes c Index bytes h found.0 small found.1 in
+    let at = frame_range c Index bytes found.0 h framed in
+    (at.0, ap index_check at.1 ∙ found.2, subst IsBytes (sym at.1) (framed_bytes c Index bytes found.0 h small framed))
 
 -- a block over that payload has these handles
 pub items_same : ((p : List ℕ) (items : List Handle) → IsBytes p → length p < 2 ^ 32 → (index_check p ≡ Ok items) ↔ ((r : ℕ) × IsIndexBlock p items r))
-    → (bytes : List ℕ) (h : HandleParts) (hs : List Handle) (p : List ℕ) (items : List Handle) → IsBytes bytes → h.size < 2 ^ 32 → handles_at run_hashes bytes h ≡ Ok hs → p ≡ payload_in bytes h
+    → (c : Hashes) (bytes : List ℕ) (h : HandleParts) (hs : List Handle) (p : List ℕ) (items : List Handle) → IsBytes bytes → h.size < 2 ^ 32 → handles_at c bytes h ≡ Ok hs → p ≡ payload_in bytes h
     → ((r : ℕ) → IsIndexBlock p hs r → items ≡ hs) → items ≡ hs
-items_same accepts bytes h hs p items small size e is read =
-    let at = index_read bytes h hs small e in
+items_same accepts c bytes h hs p items small size e is read =
+    let at = index_read c bytes h hs small e in
     let fits : length (payload_in bytes h) < 2 ^ 32 = omega (arith, size, payload_fits bytes h) in
     let block = (accepts (payload_in bytes h) hs at.2 fits).0 at.1 in
     read block.0 (subst (λ q. IsIndexBlock q hs block.0) (sym is) block.1)
@@ -55,8 +54,8 @@ one_most : (b : Bool) → (if b then 1 else 0) ≤ 1
 one_most true = omega arith
 one_most false = omega arith
 
-blocks_most : (bytes : List ℕ) (f : Option Filter) (hs : List Handle) → blocks_frames run_hashes bytes f none_passed hs ≤ length hs
-blocks_most bytes f hs = walk_most (check_block run_hashes bytes f) _ (λ t h. one_most (eqb h.offset t.offset)) none_passed hs
+blocks_most : (c : Hashes) (bytes : List ℕ) (f : Option Filter) (hs : List Handle) → blocks_frames c bytes f none_passed hs ≤ length hs
+blocks_most c bytes f hs = walk_most (check_block c bytes f) _ (λ t h. one_most (eqb h.offset t.offset)) none_passed hs
 
 -- a stage after which frames are asked for has succeeded
 went_on : {X : Type 0} (r : Result X Error) (go : X → ℕ) → 1 ≤ frames_after r go → (x : X) × (r ≡ Ok x) × (frames_after r go ≡ go x)
@@ -64,25 +63,25 @@ went_on (Ok x) go some = (x, refl, refl)
 went_on (Err e) go some = absurd (omega (arith, some))
 
 -- where a check reads frames of blocks, it has read the index, which has a handle for each
-pub blocks_read : (bytes : List ℕ) (h : RunHandles) → filter_frames h.filter + 2 ≤ check_frames run_hashes bytes h
-    → (hs : List Handle) × (handles_at run_hashes bytes h.index ≡ Ok hs) × (check_frames run_hashes bytes h ≤ filter_frames h.filter + (1 + length hs))
+pub blocks_read : (c : Hashes) (bytes : List ℕ) (h : RunHandles) → filter_frames h.filter + 2 ≤ check_frames c bytes h
+    → (hs : List Handle) × (handles_at c bytes h.index ≡ Ok hs) × (check_frames c bytes h ≤ filter_frames h.filter + (1 + length hs))
 unfolding check_frames
-blocks_read bytes h some =
-    let f = went_on (filter_in_run run_hashes bytes h.filter) (λ f. frames_by_index run_hashes bytes f h.index) (omega (arith, some)) in
-    let hs = went_on (handles_at run_hashes bytes h.index) (λ hs. blocks_frames run_hashes bytes f.0 none_passed hs) (omega (arith, some, f.2)) in
-    (hs.0, hs.1, omega (arith, f.2, hs.2, blocks_most bytes f.0 hs.0))
+blocks_read c bytes h some =
+    let f = went_on (filter_in_run c bytes h.filter) (λ f. frames_by_index c bytes f h.index) (omega (arith, some)) in
+    let hs = went_on (handles_at c bytes h.index) (λ hs. blocks_frames c bytes f.0 none_passed hs) (omega (arith, some, f.2)) in
+    (hs.0, hs.1, omega (arith, f.2, hs.2, blocks_most c bytes f.0 hs.0))
 
 -- so the handle of the last block is there
-pub last_read : (bytes : List ℕ) (h : RunHandles) (n before : ℕ) → before ≡ filter_frames h.filter → n ≡ min (check_frames run_hashes bytes h) (2 ^ 64 - 1) → before + 1 < n
-    → (hs : List Handle) × (handles_at run_hashes bytes h.index ≡ Ok hs) × (n - before - 2 < length hs)
-last_read bytes h n before b e more =
-    let found = blocks_read bytes h (omega (arith, b, e, more)) in
+pub last_read : (c : Hashes) (bytes : List ℕ) (h : RunHandles) (n before : ℕ) → before ≡ filter_frames h.filter → n ≡ min (check_frames c bytes h) (2 ^ 64 - 1) → before + 1 < n
+    → (hs : List Handle) × (handles_at c bytes h.index ≡ Ok hs) × (n - before - 2 < length hs)
+last_read c bytes h n before b e more =
+    let found = blocks_read c bytes h (omega (arith, b, e, more)) in
     (found.0, found.1, omega (arith, found.2, b, e, more))
 
 -- which is where the check ended
-pub block_is_last : (bytes : List ℕ) (h : RunHandles) (n before : ℕ) (hs : List Handle) (k : HandleParts) (end : SstCheckEnd) → before ≡ filter_frames h.filter → before + 1 < n → handles_at run_hashes bytes h.index ≡ Ok hs
-    → Some k ≡ option_map handle_range (slice_get hs (n - before - 2)) → IsFrameOf 0 (n - before - 2) k end → IsLastFrame bytes h n end
-block_is_last bytes h n before hs k end b more read at is =
+pub block_is_last : (c : Hashes) (bytes : List ℕ) (h : RunHandles) (n before : ℕ) (hs : List Handle) (k : HandleParts) (end : SstCheckEnd) → before ≡ filter_frames h.filter → before + 1 < n → handles_at c bytes h.index ≡ Ok hs
+    → Some k ≡ option_map handle_range (slice_get hs (n - before - 2)) → IsFrameOf 0 (n - before - 2) k end → IsLastFrame c bytes h n end
+block_is_last c bytes h n before hs k end b more read at is =
     let found = some_range (slice_get hs (n - before - 2)) k (sym at) in
     record {
       filter = λ few. absurd (omega (arith, few, b, more));

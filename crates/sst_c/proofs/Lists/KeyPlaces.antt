@@ -6,7 +6,6 @@ use Rattle.std.specs.List.{AllZip}
 use Rattle.std.specs.declared.ops.Bound.TheVariants.{Included}
 use Rattle.std.proofs.lemmas.Bool.{cases_Bool, ne_eqb}
 use Rattle.std.proofs.lemmas.List.{map-append}
-use Rattle.xxh3.specs.Xxh3.{xxh3_64}
 use Rattle.sstable_blocks.specs.BlockTypes as types
 use Rattle.sstable_blocks.specs.Prelude.{Entry, Handle, IsIndexBlock, IsOrdered, KeyRange, entries, handles, items_in, items_left, plain}
 use Rattle.sstable_blocks.specs.Blocks.{joined}
@@ -16,11 +15,11 @@ use Rattle.sstable_blocks.specs.Lookup.{IsEnd}
 use Rattle.sstable_blocks.specs.Opened.{Opened, index_in}
 use Rattle.sstable_blocks.specs.OpeningLaws.{frame_range, stored_ends}
 use Rattle.sstable_blocks.specs.RisingLaws.{IsLower, KeysRise, counted, counted-cons, lower_before, none_counted, ordered_rise}
+use Rattle.sstable_blocks.specs.RunReading.{Hashes}
 use Rattle.sstable_blocks.specs.Scans.{is_before, is_up_to, within}
 use Rattle.sstable_blocks.specs.Sound.{IsSound}
 use Rattle.sstable_blocks.specs.declared.run.RunHandles.{RunHandles}
 use Rattle.sst_c.specs.Ranges.{IsWindowOf, key_given}
-use Rattle.sst_c.specs.Runs.{run_hashes}
 use Rattle.sst_c.specs.Windows.{IsWindow, blocks_in, left_in, stored}
 use Rattle.sst_c.specs.declared.window.SstWindow.{SstWindow}
 use Rattle.sstable_blocks.specs.KeyRangeLaws.{within_between}
@@ -98,17 +97,17 @@ module _ (p : List ℕ → Bool) (lower : IsLower p) where
           subst (IsCounted p (b ∷ bs)) (sym next) (inr (found.0, found.1, omega (arith, sum, all, found.2, length-append b (joined (take n bs)))))
 
 -- the same of the blocks of a sound run, by its index
-pub run_counted : (blocks : List (List Entry)) (bytes : List ℕ) (h : RunHandles) (key : List ℕ) → IsSound run_hashes blocks bytes h → Opened xxh3_64 blocks bytes h
+pub run_counted : (c : Hashes) (blocks : List (List Entry)) (bytes : List ℕ) (h : RunHandles) (key : List ℕ) → IsSound c blocks bytes h → Opened c.hash64 blocks bytes h
     → ((r : ℕ) (p : List ℕ) (items : List Handle) → length p < 2 ^ 32 → IsIndexBlock p items r → items_in handles p ≡ items)
     → IsCounted (is_before (Included key)) (blocks_in bytes h) (counted handles.key (is_before (Included key)) (index_in bytes h.index))
-run_counted blocks bytes h key s o read =
+run_counted c blocks bytes h key s o read =
     let p = is_before (Included key) in
-    let frame = frame_range run_hashes types.Index bytes s.index.payload h.index s.index.frame in
+    let frame = frame_range c types.Index bytes s.index.payload h.index s.index.frame in
     let hs : index_in bytes h.index ≡ s.handles = ap (items_in handles) frame.1 ∙ read s.index.interval s.index.payload s.handles (omega (arith, s.index.framed)) s.index.is_block in
-    let ends = stored_have_ends blocks s.handles (stored_ends run_hashes bytes blocks s.handles s.stored) in
+    let ends = stored_have_ends blocks s.handles (stored_ends c bytes blocks s.handles s.stored) in
     let order : IsOrdered entries (joined (stored blocks)) = subst (IsOrdered entries) (sym (joined_plain blocks)) (plain_ordered (joined blocks) s.ordered) in
     let there = counted_by_ends p (lower_before (Included key)) (stored blocks) s.handles ends order in
-    subst (λ (bs : List (List Entry)). IsCounted p bs (counted handles.key p (index_in bytes h.index))) (sym (blocks_stored blocks bytes h o))
+    subst (λ (bs : List (List Entry)). IsCounted p bs (counted handles.key p (index_in bytes h.index))) (sym (blocks_stored c.hash64 blocks bytes h o))
     (subst (λ (xs : List Handle). IsCounted p (stored blocks) (counted handles.key p xs)) (sym hs) there)
 
 -- a key that is not given, and one that is

@@ -5,7 +5,6 @@ use Rattle.std.specs.Option.{option_map}
 use Rattle.sstable_blocks.specs.BlockLaws.{handle_range}
 use Rattle.std.proofs.lemmas.List.{length-map}
 use Rattle.std.proofs.lemmas.Option.{slice_get-map, slice_get_within}
-use Rattle.xxh3.specs.Xxh3.{xxh3_64}
 use Rattle.sstable_blocks.specs.Prelude.{HandleParts, Entry, Handle, entries, items_in, plain}
 use Rattle.sstable_blocks.specs.Opened.{Opened, index_in, payload_in, range_of}
 use Rattle.sstable_blocks.specs.declared.run.RunHandles.{RunHandles}
@@ -26,8 +25,8 @@ each_alike f g (x ∷ xs) (y ∷ ys) len like =
     cc
 
 -- a run's blocks are stored as they were written
-pub blocks_stored : (blocks : List (List Entry)) (bytes : List ℕ) (h : RunHandles) → Opened xxh3_64 blocks bytes h → blocks_in bytes h ≡ stored blocks
-blocks_stored blocks bytes h o =
+pub blocks_stored : (hash : List ℕ → ℕ) (blocks : List (List Entry)) (bytes : List ℕ) (h : RunHandles) → Opened hash blocks bytes h → blocks_in bytes h ≡ stored blocks
+blocks_stored hash blocks bytes h o =
     each_alike (λ (g : Handle). items_in entries (payload_in bytes (range_of g))) (λ (b : List Entry). map plain b) (index_in bytes h.index) blocks o.count
     (λ n g at. (let there = o.block_open n g at in (there.0, there.1, there.2.items)))
 

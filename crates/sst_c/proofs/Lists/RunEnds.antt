@@ -3,7 +3,6 @@ use Rattle.std.proofs.Common.{◌≡◌, ◌⊎◌, ℕ, zero, suc, ◌+◌, ◌
 use Rattle.std.proofs.lemmas.Bool.{eq-eqb, ne_eqb}
 use Rattle.std.proofs.lemmas.List.{append-nil, length-map, take_at}
 use Rattle.std.specs.List.{AllByRecursion}
-use Rattle.xxh3.specs.Xxh3.{xxh3_64, xxh3_128}
 use Rattle.sstable_blocks.specs.BlockLaws.{length-frame}
 use Rattle.sstable_blocks.specs.BlockTypes.{Index, Filter}
 use Rattle.sstable_blocks.specs.Blocks.{joined}
@@ -12,12 +11,13 @@ use Rattle.sstable_blocks.specs.FilterLaws.{length-filter_payload}
 use Rattle.sstable_blocks.specs.Prelude.{Entry, EndFits, Handle, HandleParts, IsHandle, IsOrdered, frame, handles, index_payload}
 use Rattle.sstable_blocks.specs.Results.{Error, Memory, TooLong}
 use Rattle.sstable_blocks.specs.Run.{Form, block_frame, block_frames, filter_frame, handles_from, index_frame, index_text, run_handles, run_text, IsFilterText, IsFramed, IsLayout, IsRun, RunFits}
+use Rattle.sstable_blocks.specs.RunReading.{Hashes}
 use Rattle.sstable_blocks.specs.Sound.{AreContiguous}
 use Rattle.sstable_blocks.specs.Writing.{PartFits}
 use Rattle.sstable_blocks.specs.declared.run.RunConfig.{RunConfig}
 use Rattle.sstable_blocks.specs.declared.run.RunHandles.{RunHandles}
 use Rattle.sst_c.specs.Index.{handle_given, HasEndKey}
-use Rattle.sst_c.specs.RunWrites.{end_index, filter_length, frames_length, AreOfBlocks, CanEnd, EndFitsRun, EndsRun, FilterFits, IsEndWrite, IsFilterAppended, IsPartAppended, IsRunEnd}
+use Rattle.sst_c.specs.RunWrites.{end_index, filter_length, frames_length, AreOfBlocks, CanEnd, EndFitsRun, EndsRunOf, FilterFits, IsEndWrite, IsFilterAppended, IsPartAppended, IsRunEnd}
 use Rattle.sst_c.specs.Runs.{handles_given, run_form}
 use Rattle.sst_c.specs.declared.codes.Status.{Status}
 use Rattle.sst_c.specs.declared.codes.Status.TheVariants.{Done, Failed, NotFound, BadArgument, NoRoom}
@@ -78,17 +78,17 @@ refused_on P Q e f (inl memory) = inl memory
 refused_on P Q e f (inr long) = inr (long.0, λ q. long.1 (f q))
 
 -- what is appended to no bytes, an index and then a filter, is the end of a run
-module _ (config : RunConfig) (hs : List Handle) (hashes : List ℕ) where
-  ended_without : (at : ℕ) (mid new : List ℕ) (i : HandleParts) → at ≡ frames_length hs → IsPartAppended Index at (index_payload hs config.index_interval) [] mid i
-      → config.bits_per_key ≡ 0 → new ≡ mid → IsRunEnd (run_form config) hs hashes new (record { index = i; filter = None })
+module _ (c : Hashes) (config : RunConfig) (hs : List Handle) (hashes : List ℕ) where
+  ended_without : (at : ℕ) (mid new : List ℕ) (i : HandleParts) → at ≡ frames_length hs → IsPartAppended c.hash128 Index at (index_payload hs config.index_interval) [] mid i
+      → config.bits_per_key ≡ 0 → new ≡ mid → IsRunEnd (run_form c config) hs hashes new (record { index = i; filter = None })
   ended_without at mid new i here index z same =
-      let f = run_form config in
+      let f = run_form c config in
       let l = index_long f hs in
       let n = no_filter_long config.bits_per_key (length hashes) z in
       let end = index.fits.end in
       let small : length (index_payload hs config.index_interval) ≤ 4294967262 = index.fits.framed in
       let bits : length hashes * config.bits_per_key ≡ 0 = ap (λ b. length hashes * b) z ∙ (let o : length hashes * 0 ≡ 0 = omega arith in o) in
-      let none : filter_frame f [] ≡ [] = ap (λ b. cond b [] (frame xxh3_128 Filter [])) (eq-eqb _ _ z) in
+      let none : filter_frame f [] ≡ [] = ap (λ b. cond b [] (frame c.hash128 Filter [])) (eq-eqb _ _ z) in
       record {
         fits = record { index_frame_fits = small; bits = omega arith; end = omega arith };
         filter = [];
@@ -98,10 +98,10 @@ module _ (config : RunConfig) (hs : List Handle) (hashes : List ℕ) where
             ∙ (λ j. record { index = record { offset = here j; size = sym l j }; filter = sym (ap (λ b. cond b None (Some (record { offset = frames_length hs + length (end_index f hs); size = length (filter_frame f []) }))) (eq-eqb _ _ z)) j });
       }
 
-  ended_with : (at end : ℕ) (mid new : List ℕ) (i h : HandleParts) → at ≡ frames_length hs → end ≡ at + (33 + length (index_payload hs config.index_interval)) → IsPartAppended Index at (index_payload hs config.index_interval) [] mid i
-      → IsFilterAppended config.bits_per_key hashes end mid new (Some h) → IsRunEnd (run_form config) hs hashes new (record { index = i; filter = Some h })
+  ended_with : (at end : ℕ) (mid new : List ℕ) (i h : HandleParts) → at ≡ frames_length hs → end ≡ at + (33 + length (index_payload hs config.index_interval)) → IsPartAppended c.hash128 Index at (index_payload hs config.index_interval) [] mid i
+      → IsFilterAppended c.hash128 config.bits_per_key hashes end mid new (Some h) → IsRunEnd (run_form c config) hs hashes new (record { index = i; filter = Some h })
   ended_with at end mid new i h here behind index filter =
-      let f = run_form config in
+      let f = run_form c config in
       let some = filter.0 in
       let few = filter.1 in
       let p = filter.2.0 in
@@ -112,28 +112,28 @@ module _ (config : RunConfig) (hs : List Handle) (hashes : List ℕ) where
       let last = part.fits.end in
       let small : length (index_payload hs config.index_interval) ≤ 4294967262 = index.fits.framed in
       let other : config.bits_per_key ≡ 0 → ⊥ = λ z. absurd (omega (arith, some, z)) in
-      let framed_p : filter_frame f p ≡ frame xxh3_128 Filter p = ap (λ b. cond b [] (frame xxh3_128 Filter p)) (ne_eqb _ _ other) in
-      let m = ap length framed_p ∙ length-frame xxh3_128 Filter p in
+      let framed_p : filter_frame f p ≡ frame c.hash128 Filter p = ap (λ b. cond b [] (frame c.hash128 Filter p)) (ne_eqb _ _ other) in
+      let m = ap length framed_p ∙ length-frame c.hash128 Filter p in
       let second : end ≡ frames_length hs + length (end_index f hs) = omega arith in
       record {
         fits = record { index_frame_fits = small; bits = few; end = omega arith };
         filter = p;
         filter_is = λ k. is;
-        text = part.bytes ∙ ap (λ xs. xs ++ frame xxh3_128 Filter p) index.bytes ∙ ap (λ xs. end_index f hs ++ xs) (sym framed_p);
+        text = part.bytes ∙ ap (λ xs. xs ++ frame c.hash128 Filter p) index.bytes ∙ ap (λ xs. end_index f hs ++ xs) (sym framed_p);
         handles = (λ j. record { index = index.handle j; filter = Some (part.handle j) })
             ∙ (λ j. record { index = record { offset = here j; size = sym l j }; filter = Some (record { offset = second j; size = sym m j }) })
             ∙ (λ j. record { index = record { offset = frames_length hs; size = length (end_index f hs) }; filter = sym (ap (λ b. cond b None (Some (record { offset = frames_length hs + length (end_index f hs); size = length (filter_frame f p) }))) (ne_eqb _ _ other)) j });
       }
 
-  pub ended : (at end : ℕ) (mid new : List ℕ) (i : HandleParts) (o : Option HandleParts) → at ≡ frames_length hs → end ≡ at + (33 + length (index_payload hs config.index_interval)) → IsPartAppended Index at (index_payload hs config.index_interval) [] mid i
-      → IsFilterAppended config.bits_per_key hashes end mid new o → IsRunEnd (run_form config) hs hashes new (record { index = i; filter = o })
+  pub ended : (at end : ℕ) (mid new : List ℕ) (i : HandleParts) (o : Option HandleParts) → at ≡ frames_length hs → end ≡ at + (33 + length (index_payload hs config.index_interval)) → IsPartAppended c.hash128 Index at (index_payload hs config.index_interval) [] mid i
+      → IsFilterAppended c.hash128 config.bits_per_key hashes end mid new o → IsRunEnd (run_form c config) hs hashes new (record { index = i; filter = o })
   ended at end mid new i None here behind index filter = ended_without at mid new i here index filter.0 filter.1
   ended at end mid new i (Some h) here behind index filter = ended_with at end mid new i h here behind index filter
 
 -- a filter that is appended has a frame that is not empty
-pub filter_appended_some : (bits : ℕ) (hashes : List ℕ) (at : ℕ) (old new : List ℕ) (o : Option HandleParts) → IsFilterAppended bits hashes at old new o → IfSome o (λ h. 0 < h.size)
-filter_appended_some bits hashes at old new None filter = tt
-filter_appended_some bits hashes at old new (Some h) filter = let size = ap (λ (x : HandleParts). x.size) filter.2.2.handle in omega (arith, size)
+pub filter_appended_some : (hash : List ℕ → ℕ) (bits : ℕ) (hashes : List ℕ) (at : ℕ) (old new : List ℕ) (o : Option HandleParts) → IsFilterAppended hash bits hashes at old new o → IfSome o (λ h. 0 < h.size)
+filter_appended_some hash bits hashes at old new None filter = tt
+filter_appended_some hash bits hashes at old new (Some h) filter = let size = ap (λ (x : HandleParts). x.size) filter.2.2.handle in omega (arith, size)
 
 module _ (f : Form) where
   -- the frames of blocks follow each other, and have as many bytes as their handles say
@@ -218,15 +218,15 @@ abbrev pub AreReady : Form → List (List Entry) → Type 0
 AreReady f blocks =
     (length (handles_from f 0 blocks) ≡ length blocks) × IsOrdered handles (handles_from f 0 blocks) × AllByRecursion IsHandle (handles_from f 0 blocks) × AllByRecursion EndFits (handles_from f 0 blocks)
 
-module _ (given : List SstKeyedHandle) (hashes : List ℕ) (config : RunConfig) where
+module _ (c : Hashes) (given : List SstKeyedHandle) (hashes : List ℕ) (config : RunConfig) where
   -- there is a hash of a key, where blocks have entries and a filter
-  hashes_some : (b : List Entry) (bs : List (List Entry)) → AreOfBlocks (run_form config) (b ∷ bs) (map handle_given given) hashes → 1 ≤ config.bits_per_key → 1 ≤ length hashes
+  hashes_some : (b : List Entry) (bs : List (List Entry)) → AreOfBlocks (run_form c config) (b ∷ bs) (map handle_given given) hashes → 1 ≤ config.bits_per_key → 1 ≤ length hashes
   hashes_some b bs a bits =
       let first : 1 ≤ length b = a.all_some.0 in
-      omega (arith, first, length-append b (joined bs), ap length (a.hashed bits), length-map (joined (b ∷ bs)) (λ (e : Entry). xxh3_64 e.key.user_key))
+      omega (arith, first, length-append b (joined bs), ap length (a.hashed bits), length-map (joined (b ∷ bs)) (λ (e : Entry). c.hash64 e.key.user_key))
 
   -- a run of blocks can end with their handles and hashes
-  can_end : (blocks : List (List Entry)) → AreOfBlocks (run_form config) blocks (map handle_given given) hashes → AreReady (run_form config) blocks → CanEnd given hashes config
+  can_end : (blocks : List (List Entry)) → AreOfBlocks (run_form c config) blocks (map handle_given given) hashes → AreReady (run_form c config) blocks → CanEnd given hashes config
   can_end [] a ready = absurd (omega (arith, a.some))
   can_end (b ∷ bs) a ready = record {
     can = record {
@@ -236,16 +236,16 @@ module _ (given : List SstKeyedHandle) (hashes : List ℕ) (config : RunConfig) 
       ends = subst (AllByRecursion EndFits) (sym a.handles) ready.3;
       some_interval = a.writable.1;
     };
-    contiguous = subst (AreContiguous 0) (sym a.handles) (frames_follow (run_form config) 0 (b ∷ bs)).0;
+    contiguous = subst (AreContiguous 0) (sym a.handles) (frames_follow (run_form c config) 0 (b ∷ bs)).0;
     hashed = hashes_some b bs a;
     writable = a.writable;
   }
 
-  module _ (most : config.restart_interval ≤ 255) (index_most : config.index_interval ≤ 255) (blocks : List (List Entry)) (a : AreOfBlocks (run_form config) blocks (map handle_given given) hashes) (ready : AreReady (run_form config) blocks) where
+  module _ (most : config.restart_interval ≤ 255) (index_most : config.index_interval ≤ 255) (blocks : List (List Entry)) (a : AreOfBlocks (run_form c config) blocks (map handle_given given) hashes) (ready : AreReady (run_form c config) blocks) where
     -- what is written is the run of the blocks, after their frames
-    pub ends_run : (old new : List ℕ) (len_old len_new : ℕ) (h_old h_new : SstRunHandles) (s : Status) → IsEndWrite given hashes config old new len_old len_new h_old h_new s → EndsRun (run_form config) blocks new len_new h_new s
+    pub ends_run : (old new : List ℕ) (len_old len_new : ℕ) (h_old h_new : SstRunHandles) (s : Status) → IsEndWrite c given hashes config old new len_old len_new h_old h_new s → EndsRunOf (run_form c config) blocks new len_new h_new s
     ends_run old new len_old len_new h_old h_new Done w =
-        let f = run_form config in
+        let f = run_form c config in
         let bytes = w.1.0 in
         let h = w.1.1 in
         let layout = end_is_layout f blocks (map handle_given given) hashes a most index_most bytes h w.1.2 in
@@ -255,7 +255,7 @@ module _ (given : List SstKeyedHandle) (hashes : List ℕ) (config : RunConfig) 
         (subst (λ x. IsLayout f blocks (block_frames f blocks ++ bytes) x) (sym w.1.4) layout)
     ends_run old new len_old len_new h_old h_new (Failed e) w = elim w.0.cause [
       | inl memory ↦ inl memory
-      | inr long ↦ inr (long.0, λ fits. long.2 (end_fits (run_form config) blocks (map handle_given given) hashes a most index_most fits))
+      | inr long ↦ inr (long.0, λ fits. long.2 (end_fits (run_form c config) blocks (map handle_given given) hashes a most index_most fits))
     ]
     ends_run old new len_old len_new h_old h_new NoRoom w = tt
     ends_run old new len_old len_new h_old h_new NotFound w = absurd w.1.3

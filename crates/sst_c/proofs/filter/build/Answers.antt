@@ -1,6 +1,5 @@
 use Rattle.std.proofs.Common.{rules, ℕ, List, Bor, length, subst, sym}
 use Rattle.std.proofs.lemmas.List.{length-map}
-use Rattle.xxh3.specs.Xxh3.{xxh3_64}
 use Rattle.sstable_blocks.specs.Run.{IsFilterText}
 use Rattle.sst_c.specs.Filters.{CanBuild, IsFilterBuild}
 use Rattle.sst_c.specs.Given.{IsWrittenOut}
@@ -18,8 +17,8 @@ built bits hashes bytes old new len_old len_new BadArgument can is written = abs
 built bits hashes bytes old new len_old len_new (Failed e) can is written = absurd written
 
 pub returns-in-Ok : goal.returns-in-Ok
-returns-in-Ok c =
+returns-in-Ok g c =
     let keys = c.args.keys.now in
-    let hash : Bor (List ℕ) → ℕ = λ k. xxh3_64 k.now in
+    let hash : Bor (List ℕ) → ℕ = λ k. g.H.BlockHash.hash64 k.now in
     let can : CanBuild (length keys) c.args.bits = search rules in
     built _ _ c.in-Ok.payload.items _ _ _ _ c.write_bytes.result (subst (λ n. CanBuild n c.args.bits) (sym (length-map keys hash)) can) c.in-Ok.ensures.ok (search rules)

@@ -1,10 +1,9 @@
-use Rattle.xxh3.specs.Xxh3.{xxh3_64, xxh3_128}
 use Rattle.sstable_blocks.specs.RunReading.{hashes}
 use Rattle.sst_c.proofs.Lists.Places.{some_frame}
 use Rattle.sst_c.proofs.run.run_of.Goals as goal
 
 pub returns-in-Ok-clause-filter : goal.returns-in-Ok-clause-filter
-returns-in-Ok-clause-filter c =
+returns-in-Ok-clause-filter g c =
     let s = c.in-Ok.ensures.sound in
-    let o = c.sound_opens.ensures (hashes xxh3_64 xxh3_128) _ s.0 c.in-Ok.handles s.1 in
+    let o = c.sound_opens.ensures (hashes g.H.BlockHash.hash64 g.H.BlockHash.hash128) _ s.0 c.in-Ok.handles s.1 in
     some_frame s.0 c.in-Ok.handles.filter o.filter_range

@@ -7,7 +7,6 @@ use Rattle.sstable_blocks.specs.BoundLaws.{before_included}
 use Rattle.sstable_blocks.specs.RisingLaws.{counted}
 use Rattle.sstable_blocks.specs.Opened.{index_in}
 use Rattle.sstable_blocks.specs.Scans.{is_before}
-use Rattle.sst_c.specs.Runs.{run_hashes}
 use Rattle.sst_c.specs.Windows.{blocks_in}
 use Rattle.sst_c.proofs.Lists.KeyPlaces.{IsCounted, run_counted}
 use Rattle.sst_c.proofs.Lists.RunBlockLists.{blocks_count}
@@ -21,7 +20,7 @@ returns-then-block-len-clause-before c =
     let blocks = blocks_in bytes h in
     let sound = c.requires in
     let count = ap (λ (xs : List Handle). length xs) c.index_of-index.ensures in
-    let all = run_counted sound.0 bytes h key sound.1 (c.sound_opens.ensures run_hashes sound.0 bytes h sound.1) (λ r p items short is. (c.index_block_is_read.ensures r p items short is).1) in
+    let all = run_counted sound.0 sound.1.0 bytes h key sound.1.1 (c.sound_opens.ensures sound.0 sound.1.0 bytes h sound.1.1) (λ r p items short is. (c.index_block_is_read.ensures r p items short is).1) in
     let pos : c.position-block.result ≡ counted handles.key (is_before (Included key)) (index_in bytes h.index) =
     before_included c.index_of-index.result.items c.position-block.result c.below.result.needle.now key c.below.result.from (Included key) c.position-block.ensures.value c.below.ensures.needle c.below.ensures.from refl
     ∙ ap (λ (xs : List Handle). counted handles.key (is_before (Included key)) xs) c.index_of-index.ensures in
@@ -51,7 +50,7 @@ returns-clause-before c =
     let blocks = blocks_in bytes h in
     let sound = c.requires in
     let count = ap (λ (xs : List Handle). length xs) c.index_of-index.ensures in
-    let all = run_counted sound.0 bytes h key sound.1 (c.sound_opens.ensures run_hashes sound.0 bytes h sound.1) (λ r p items short is. (c.index_block_is_read.ensures r p items short is).1) in
+    let all = run_counted sound.0 sound.1.0 bytes h key sound.1.1 (c.sound_opens.ensures sound.0 sound.1.0 bytes h sound.1.1) (λ r p items short is. (c.index_block_is_read.ensures r p items short is).1) in
     let pos : c.position-block.result ≡ counted handles.key (is_before (Included key)) (index_in bytes h.index) =
     before_included c.index_of-index.result.items c.position-block.result c.below.result.needle.now key c.below.result.from (Included key) c.position-block.ensures.value c.below.ensures.needle c.below.ensures.from refl
     ∙ ap (λ (xs : List Handle). counted handles.key (is_before (Included key)) xs) c.index_of-index.ensures in

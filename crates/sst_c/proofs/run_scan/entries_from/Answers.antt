@@ -11,9 +11,9 @@ loop-at-init c =
     let block = c.args.part.now.block in
     let it = c.iter-items.result in
     let fresh = c.iter-items.ensures in
-    let r = c.interval_of-interval.result in
+    let r = c.interval-interval.result in
     let j = c.args.index / r in
-    let interval : r ≡ block.interval = c.interval_of-interval.ensures.value in
+    let interval : r ≡ block.interval = c.interval-interval.ensures.value in
     let list : it.window.list ≡ block.items = ap (λ (w : Window Entry). w.list) fresh.window in
     let inside : j * block.interval < length block.items = c.head_offset.ensures.inside in
     let value : c.head_offset.result ≡ place_offset entries block.interval block.items (j * block.interval) = c.head_offset.ensures.value in
@@ -51,5 +51,5 @@ returns-in_default-clause-left c =
 
 pub returns-clause-left : goal.returns-clause-left
 returns-clause-left c =
-    let end : c.loop-at._at ≡ c.args.index = omega (arith, c.loop-at-test.false, div-mul-le_self c.args.index c.interval_of-interval.result) in
+    let end : c.loop-at._at ≡ c.args.index = omega (arith, c.loop-at-test.false, div-mul-le_self c.args.index c.interval-interval.result) in
     c.loop-at.invariant.left ∙ ap (λ n. drop n c.args.part.now.block.items) end

@@ -1,7 +1,7 @@
 use Rattle.std.proofs.Common.{List, nat_lt, subst}
 use Rattle.sstable_blocks.specs.Prelude.{Entry}
 use Rattle.sst_c.specs.Batches.{IsScan, number_given}
-use Rattle.sst_c.specs.Runs.{handles_given, run_hashes}
+use Rattle.sst_c.specs.Runs.{handles_given}
 use Rattle.sst_c.specs.Windows.{blocks_in}
 use Rattle.sst_c.proofs.Lists.RunBlockLists.{blocks_stored}
 use Rattle.sst_c.proofs.run_scan.sst_run_scan.Goals as goal
@@ -13,4 +13,4 @@ returns c =
     let says : List (List Entry) → Type 0 = λ blocks. IsScan bytes blocks (number_given c.args.has_below c.args.below_seqno) (nat_lt 0 c.args.reverse) c.args.window.now c.scan.new.window c.args.places.now c.scan.new.places c.args.count.now c.scan.new.count c.scan.result in
     let given = subst (λ b. IsScan bytes (blocks_in bytes c.run_handles.result) b (nat_lt 0 c.args.reverse) c.args.window.now c.scan.new.window c.args.places.now c.scan.new.places c.args.count.now c.scan.new.count c.scan.result) c.number_of.ensures c.scan.ensures in
     let here = subst (λ g. says (blocks_in bytes g)) c.run_handles.ensures given in
-    (c.scan.result, c.code.ensures, λ blocks sound. subst says (blocks_stored blocks bytes h (c.sound_opens.ensures run_hashes blocks bytes h sound)) here)
+    (c.scan.result, c.code.ensures, λ k blocks sound. subst says (blocks_stored k.hash64 blocks bytes h (c.sound_opens.ensures k blocks bytes h sound)) here)

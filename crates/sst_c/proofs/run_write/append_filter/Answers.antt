@@ -5,7 +5,7 @@ use Rattle.sst_c.proofs.Lists.RunEnds.{filter_fits, refused_on}
 use Rattle.sst_c.proofs.run_write.append_filter.Goals as goal
 
 pub returns-in_err-handle-clause-cause : goal.returns-in_err-handle-clause-cause
-returns-in_err-handle-clause-cause c =
+returns-in_err-handle-clause-cause g c =
     let hashes = c.args.hashes.now in
     let some : 1 ≤ c.args.bits = omega (arith, c.if-bits-eq0.false) in
     let is = subst (IsFilterText hashes c.args.bits) (sym c.deref.ensures.value) c.in_ok-payload.ensures.ok in

@@ -1,11 +1,10 @@
 use Rattle.std.proofs.Common.{◌≡◌, length, map, take, drop}
-use Rattle.xxh3.specs.Xxh3.{xxh3_64}
 use Rattle.sst_c.specs.declared.entries.SstEntry.{SstEntry}
 use Rattle.sst_c.proofs.run_write.write_hashes.Given as goal
 
 abbrev pub invariant-loop-i : goal.invariant-loop-i
-invariant-loop-i l = record {
-  front : take l.i l.hashes ≡ map (λ (e : SstEntry). xxh3_64 e.key.now) (take l.i l.fn.entries);
+invariant-loop-i g l = record {
+  front : take l.i l.hashes ≡ map (λ (e : SstEntry). g.H.BlockHash.hash64 e.key.now) (take l.i l.fn.entries);
   back : drop l.i l.hashes ≡ drop l.i l.fn.hashes;
   kept : length l.hashes ≡ length l.fn.hashes;
 }
