@@ -1,12 +1,13 @@
 //! Commands that check bytes as blocks, and all changes of them.
 
+use crate::case::{Case, Ways};
 use crate::changes::changed;
 use crate::data_blocks::data_block;
 use crate::digest::Digest;
 use crate::fault::{Fault, Result};
 use crate::indexes::index_block;
 use crate::room::{Room, block_with};
-use crate::words::{alike, number_of, small_of};
+use crate::words::number_of;
 use sst_base::table::block::BlockType;
 use sst_base::{BlockHash, Error};
 use sst_block_core::{DataBlock, DataBlockRef, IndexBlock, IndexBlockRef};
@@ -23,27 +24,23 @@ enum Kind {
 }
 
 /// The kind of a word.
-fn kind_of(word: &str) -> Result<Kind> {
+fn kind_of(word: &str, case: &mut Case<'_>) -> Kind {
     match word {
-        "data" => Ok(Kind::Data),
-        "index" => Ok(Kind::Index),
-        _ => Err(Fault::Word),
+        "data" => Kind::Data,
+        "index" => Kind::Index,
+        _ => {
+            case.note(Fault::Word);
+            Kind::Data
+        }
     }
-}
-
-/// What the checks of some bytes return: the one that makes no table of the heads, the one that
-/// makes it, the one that borrows the block, and the one of bytes that are lent.
-#[derive(Clone, Copy)]
-struct Checks {
-    once: Checked,
-    tabled: Checked,
-    by_ref: Checked,
-    lent: Checked,
 }
 
 /// The check of bytes as a data block, which makes a table of its heads or none.
 fn data_count<H: BlockHash>(alloc: Global, payload: &[u8], tabled: bool) -> Checked {
-    Ok(data_block::<H>(alloc, payload, tabled)?.len())
+    match data_block::<H>(alloc, payload, tabled) {
+        Ok(block) => Ok(block.len()),
+        Err(fault) => Err(fault),
+    }
 }
 
 /// The result of a check that counts items.
@@ -62,24 +59,20 @@ fn data_by_ref<H: BlockHash>(alloc: Global, payload: &[u8]) -> Checked {
     }
 }
 
-/// The check of bytes that are lent as a data block.
-fn data_lent<H: BlockHash>(alloc: Global, payload: &[u8]) -> Checked {
-    Ok(DataBlockRef::<H>::check(alloc, payload)?.len())
-}
-
-/// The checks of bytes as a data block.
-fn data_checks<H: BlockHash>(alloc: Global, payload: &[u8]) -> Checks {
-    Checks {
-        once: data_count::<H>(alloc, payload, false),
-        tabled: data_count::<H>(alloc, payload, true),
-        by_ref: data_by_ref::<H>(alloc, payload),
-        lent: data_lent::<H>(alloc, payload),
+/// The check of borrowed bytes as a data block.
+fn data_of_bytes<H: BlockHash>(alloc: Global, payload: &[u8]) -> Checked {
+    match DataBlockRef::<H>::check(alloc, payload) {
+        Ok(page) => Ok(page.len()),
+        Err(error) => Err(Fault::Refused(error)),
     }
 }
 
 /// The check of bytes as an index block, which makes a table of its heads or none.
 fn index_count(alloc: Global, payload: &[u8], tabled: bool) -> Checked {
-    Ok(index_block(alloc, payload, tabled)?.len())
+    match index_block(alloc, payload, tabled) {
+        Ok(block) => Ok(block.len()),
+        Err(fault) => Err(fault),
+    }
 }
 
 /// The check that borrows an index block.
@@ -90,71 +83,96 @@ fn index_by_ref(alloc: Global, payload: &[u8]) -> Checked {
     }
 }
 
-/// The check of bytes that are lent as an index block.
-fn index_lent(payload: &[u8]) -> Checked {
-    Ok(IndexBlockRef::check(payload)?.len())
-}
-
-/// The checks of bytes as an index block.
-fn index_checks(alloc: Global, payload: &[u8]) -> Checks {
-    Checks {
-        once: index_count(alloc, payload, false),
-        tabled: index_count(alloc, payload, true),
-        by_ref: index_by_ref(alloc, payload),
-        lent: index_lent(payload),
+/// The check of borrowed bytes as an index block.
+fn index_of_bytes(payload: &[u8]) -> Checked {
+    match IndexBlockRef::check(payload) {
+        Ok(page) => Ok(page.len()),
+        Err(error) => Err(Fault::Refused(error)),
     }
 }
 
-/// The text of a check.
-fn text_of(alloc: Global, checked: Checked) -> Result<String> {
+/// The result of a check: the number of items, or the error.
+fn put_checked(checked: Checked, case: &mut Case<'_>) {
     match checked {
-        Ok(count) => Ok(format!(in alloc; "{count}")?),
-        Err(Fault::Refused(error)) if error != Error::Memory => {
-            Ok(format!(in alloc; "{error:?}")?)
-        }
-        Err(fault) => Err(fault),
+        Ok(count) => case.put_count(count, ""),
+        Err(Fault::Refused(error)) if error != Error::Memory => case.put_debug(&error),
+        Err(fault) => case.note(fault),
     }
 }
 
-/// The result of checks: the number of items or the error, and each where they differ.
-fn text_of_all(alloc: Global, checks: Checks) -> Result<String> {
-    let text = text_of(alloc, checks.once);
-    let text = alike(alloc, text, "with a table", text_of(alloc, checks.tabled));
-    let text = alike(alloc, text, "borrowed", text_of(alloc, checks.by_ref));
-    alike(alloc, text, "lent", text_of(alloc, checks.lent))
+/// Adds the result of a check in another way.
+fn put_other(checked: Checked, ways: &mut Ways, way: &str, case: &mut Case<'_>) {
+    case.other(ways, way);
+    put_checked(checked, case);
+    case.agree(ways);
+}
+
+/// The result of the checks of bytes as a data block, and each where they differ.
+fn check_data<H: BlockHash>(payload: &[u8], case: &mut Case<'_>) {
+    let (alloc, mut ways) = (case.alloc, case.ways());
+    put_checked(data_count::<H>(alloc, payload, false), case);
+    let tabled = data_count::<H>(alloc, payload, true);
+    put_other(tabled, &mut ways, "with a table", case);
+    put_other(
+        data_by_ref::<H>(alloc, payload),
+        &mut ways,
+        "borrowed",
+        case,
+    );
+    put_other(
+        data_of_bytes::<H>(alloc, payload),
+        &mut ways,
+        "of bytes",
+        case,
+    );
+}
+
+/// The result of the checks of bytes as an index block, and each where they differ.
+fn check_index(payload: &[u8], case: &mut Case<'_>) {
+    let (alloc, mut ways) = (case.alloc, case.ways());
+    put_checked(index_count(alloc, payload, false), case);
+    put_other(
+        index_count(alloc, payload, true),
+        &mut ways,
+        "with a table",
+        case,
+    );
+    put_other(index_by_ref(alloc, payload), &mut ways, "borrowed", case);
+    put_other(index_of_bytes(payload), &mut ways, "of bytes", case);
 }
 
 /// The result of the checks of bytes as a block of a kind.
-fn check_as<H: BlockHash>(alloc: Global, payload: &[u8], kind: Kind) -> Result<String> {
+fn check_as<H: BlockHash>(payload: &[u8], kind: Kind, case: &mut Case<'_>) {
     match kind {
-        Kind::Data => text_of_all(alloc, data_checks::<H>(alloc, payload)),
-        Kind::Index => text_of_all(alloc, index_checks(alloc, payload)),
+        Kind::Data => check_data::<H>(payload, case),
+        Kind::Index => check_index(payload, case),
     }
 }
 
 /// The check of the payload with a byte changed: KIND AT BYTE.
-fn check_with<H: BlockHash>(
-    alloc: Global,
-    room: &Room,
-    kind: Kind,
-    at: &str,
-    byte: &str,
-) -> Result<String> {
-    let (at, byte) = (number_of(at)? as usize, small_of(byte)?);
-    let mut payload = room.payload.to_vec(alloc)?;
-    match payload.get_mut(at) {
-        Some(place) => *place = byte,
-        None => return Err(Fault::Word),
+fn check_with<H: BlockHash>(room: &Room, kind: Kind, case: &mut Case<'_>) {
+    let (at, byte) = (case.number() as usize, case.small());
+    match room.payload.to_vec(case.alloc) {
+        Ok(mut payload) => {
+            match payload.get_mut(at) {
+                Some(place) => *place = byte,
+                None => case.note(Fault::Word),
+            }
+            if case.ends() {
+                check_as::<H>(payload.as_slice(), kind, case);
+            }
+        }
+        Err(_) => case.refuse(Error::Memory),
     }
-    check_as::<H>(alloc, payload.as_slice(), kind)
 }
 
-/// The check of the payload, as it is or with a byte changed.
-fn check<H: BlockHash>(alloc: Global, room: &Room, words: &[&str]) -> Result<String> {
-    match words {
-        [kind] => check_as::<H>(alloc, room.payload.as_slice(), kind_of(kind)?),
-        [kind, at, byte] => check_with::<H>(alloc, room, kind_of(kind)?, at, byte),
-        _ => Err(Fault::Word),
+/// The check of the payload, as it is or with a byte changed: KIND, or KIND AT BYTE.
+fn check<H: BlockHash>(room: &Room, case: &mut Case<'_>) {
+    let kind = kind_of(case.word(), case);
+    if !case.has_ended() {
+        check_with::<H>(room, kind, case);
+    } else if case.is_sound() {
+        check_as::<H>(room.payload.as_slice(), kind, case);
     }
 }
 
@@ -175,61 +193,60 @@ impl Results {
     }
 
     /// Checks a payload.
-    fn add<H: BlockHash>(&mut self, alloc: Global, payload: &[u8], kind: Kind) -> Result<()> {
-        let text = check_as::<H>(alloc, payload, kind)?;
-        if number_of(text.as_str()).is_ok() {
+    fn add<H: BlockHash>(&mut self, payload: &[u8], kind: Kind, case: &mut Case<'_>) {
+        let start = case.mark();
+        check_as::<H>(payload, kind, case);
+        let text = case.text_from(start);
+        if number_of(text).is_ok() {
             self.accepted = self.accepted.saturating_add(1);
         }
-        self.digest.add(text.as_str());
-        Ok(())
+        self.digest.add(text);
+        case.cut(start);
     }
 
-    /// The text of the results.
-    fn text(&self, alloc: Global) -> Result<String> {
-        let (accepted, state) = (self.accepted, self.digest.state);
-        Ok(format!(in alloc; "{accepted} accepted, {state:016x}")?)
+    /// Adds the results.
+    fn put(&self, case: &mut Case<'_>) {
+        case.put_count(self.accepted, " accepted, ");
+        case.put_hex(self.digest.state);
     }
 }
 
 /// The checks of all changes of the payload: KIND.
-fn changes<H: BlockHash>(alloc: Global, room: &Room, words: &[&str]) -> Result<String> {
-    let [kind] = words else {
-        return Err(Fault::Word);
-    };
-    let (kind, payload) = (kind_of(kind)?, room.payload.as_slice());
+fn changes<H: BlockHash>(room: &Room, case: &mut Case<'_>) {
+    let (kind, payload) = (kind_of(case.word(), case), room.payload.as_slice());
+    if !case.ends() {
+        return;
+    }
     let mut results = Results::new();
     for number in 0..payload.len().saturating_mul(256).saturating_add(6) {
-        let changed = changed(alloc, payload, number)?;
-        results.add::<H>(alloc, changed.as_slice(), kind)?;
+        match changed(case.alloc, payload, number) {
+            Ok(changed) => results.add::<H>(changed.as_slice(), kind, case),
+            Err(fault) => case.note(fault),
+        }
     }
-    results.text(alloc)
+    results.put(case);
 }
 
 /// The checks of the payload cut before each byte: KIND.
-fn cuts<H: BlockHash>(alloc: Global, room: &Room, words: &[&str]) -> Result<String> {
-    let [kind] = words else {
-        return Err(Fault::Word);
-    };
-    let (kind, payload) = (kind_of(kind)?, room.payload.as_slice());
+fn cuts<H: BlockHash>(room: &Room, case: &mut Case<'_>) {
+    let (kind, payload) = (kind_of(case.word(), case), room.payload.as_slice());
+    if !case.ends() {
+        return;
+    }
     let mut results = Results::new();
     for end in 0..payload.len() {
-        results.add::<H>(alloc, &payload[..end], kind)?;
+        results.add::<H>(&payload[..end], kind, case);
     }
-    results.text(alloc)
+    results.put(case);
 }
 
 /// Performs a command, if it is one on checks.
-pub fn perform<H: BlockHash>(
-    alloc: Global,
-    room: &Room,
-    name: &str,
-    words: &[&str],
-) -> Result<Option<String>> {
-    let answer = match name {
-        "check" => check::<H>(alloc, room, words),
-        "changes" => changes::<H>(alloc, room, words),
-        "cuts" => cuts::<H>(alloc, room, words),
-        _ => return Ok(None),
-    };
-    Ok(Some(answer?))
+pub fn perform<H: BlockHash>(room: &Room, name: &str, case: &mut Case<'_>) -> bool {
+    match name {
+        "check" => check::<H>(room, case),
+        "changes" => changes::<H>(room, case),
+        "cuts" => cuts::<H>(room, case),
+        _ => return false,
+    }
+    true
 }

@@ -1,7 +1,6 @@
-//! Digests of texts and of bytes, so that one line of a file has the answers of many calls.
+//! Digests of texts and of bytes, so that one line of a file has the results of many calls.
 
-use crate::fault::{Fault, Result};
-use std::alloc::Global;
+use crate::case::Case;
 
 /// Continues the hash FNV-1a, of 64 bits, by some bytes.
 fn hash_on(before: u64, bytes: &[u8]) -> u64 {
@@ -40,12 +39,11 @@ impl Digest {
     }
 }
 
-/// The number and the digest of words, one after the other. The first fault of one is kept.
+/// The number and the digest of words, one after the other.
 #[derive(Clone, Copy)]
 pub struct Counted {
     count: usize,
     digest: Digest,
-    fault: Option<Fault>,
 }
 
 impl Counted {
@@ -54,7 +52,6 @@ impl Counted {
         Counted {
             count: 0,
             digest: Digest::new(),
-            fault: None,
         }
     }
 
@@ -64,24 +61,17 @@ impl Counted {
         self.digest.add(word);
     }
 
-    /// Adds the word that a call returns, or notes why it returns none.
-    pub fn add(&mut self, word: Result<String>) {
-        match word {
-            Ok(word) => self.push(word.as_str()),
-            Err(fault) => self.fault = self.fault.or(Some(fault)),
-        }
+    /// Adds the text of a case from a mark on as a word, and takes it away there.
+    pub fn take(&mut self, case: &mut Case<'_>, mark: usize) {
+        self.push(case.text_from(mark));
+        case.cut(mark);
     }
 
-    /// Returns the number of the words, by what they are of, and their digest.
-    ///
-    /// # Errors
-    ///
-    /// The first fault.
-    pub fn text(&self, alloc: Global, name: &str) -> Result<String> {
-        if let Some(fault) = self.fault {
-            return Err(fault);
-        }
-        let (count, state) = (self.count, self.digest.state);
-        Ok(format!(in alloc; "{count} {name}, {state:016x}")?)
+    /// Adds the number of the words, by what they are of, and their digest to a result.
+    pub fn put(&self, name: &str, case: &mut Case<'_>) {
+        case.put_count(self.count, " ");
+        case.put(name);
+        case.put(", ");
+        case.put_hex(self.digest.state);
     }
 }

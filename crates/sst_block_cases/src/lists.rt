@@ -1,68 +1,55 @@
 //! Commands that make lists of entries.
 
-use crate::fault::{Fault, Result};
+use crate::case::Case;
+use crate::fault::Result;
 use crate::room::Room;
-use crate::words::{alike, entry_of, entry_with, small_of, truth, wide_of};
-use sst_base::{BlockHash, InternalValue, ValueType};
+use crate::words::entry_with;
+use sst_base::{BlockHash, Error, InternalValue, ValueType};
 use sst_block_core::{DataBlock, EntryView};
 use std::alloc::Global;
 
-/// The number of entries of the list.
-fn count(alloc: Global, room: &Room) -> Result<String> {
-    Ok(format!(in alloc; "{} entries", room.entries.len())?)
-}
-
-/// Appends the entries of some words.
-fn add(alloc: Global, room: &mut Room, words: &[&str]) -> Result<String> {
-    for word in words {
-        room.entries.push(entry_of(alloc, word)?)?;
+/// Appends the entries of the words to the list.
+fn add(room: &mut Room, case: &mut Case<'_>) {
+    for word in case.rest() {
+        case.push_entry(&mut room.entries, word);
     }
-    count(alloc, room)
 }
 
 /// Appends an entry of its parts.
 fn push(
-    alloc: Global,
     room: &mut Room,
     key: &[u8],
     value: &[u8],
     seqno: u64,
     value_type: ValueType,
-) -> Result<()> {
-    let entry = entry_with(alloc, key, value, seqno, value_type)?;
-    room.entries.push(entry)?;
-    Ok(())
+    case: &mut Case<'_>,
+) {
+    match entry_with(case.alloc, key, value, seqno, value_type) {
+        Ok(entry) => case.push(&mut room.entries, entry),
+        Err(fault) => case.note(fault),
+    }
 }
 
 /// Appends keys of one byte, from the first number to the last: FIRST LAST.
-fn add_bytes(alloc: Global, room: &mut Room, words: &[&str]) -> Result<String> {
-    let [first, last] = words else {
-        return Err(Fault::Word);
-    };
-    for n in small_of(first)?..=small_of(last)? {
-        push(alloc, room, &[n], b"", 0, ValueType::Value)?;
+fn add_bytes(room: &mut Room, case: &mut Case<'_>) {
+    let (first, last) = (case.small(), case.small());
+    if case.ends() {
+        for n in first..=last {
+            push(room, &[n], b"", 0, ValueType::Value, case);
+        }
     }
-    count(alloc, room)
 }
 
 /// Appends keys of two bytes, from the first number to the last, each with itself as its sequence
 /// number: FIRST LAST.
-fn add_pairs(alloc: Global, room: &mut Room, words: &[&str]) -> Result<String> {
-    let [first, last] = words else {
-        return Err(Fault::Word);
-    };
-    for n in wide_of(first)?..=wide_of(last)? {
-        let key = n.to_be_bytes();
-        push(
-            alloc,
-            room,
-            key.as_slice(),
-            b"v",
-            u64::from(n),
-            ValueType::Value,
-        )?;
+fn add_pairs(room: &mut Room, case: &mut Case<'_>) {
+    let (first, last) = (case.wide(), case.wide());
+    if case.ends() {
+        for n in first..=last {
+            let key = n.to_be_bytes();
+            push(room, &key, b"v", u64::from(n), ValueType::Value, case);
+        }
     }
-    count(alloc, room)
 }
 
 /// The value types in turn.
@@ -75,30 +62,31 @@ fn type_in_turn(number: u8) -> ValueType {
     }
 }
 
-/// Appends versions of a key of as many bytes k, of every type, with and without values.
-fn add_versions(alloc: Global, room: &mut Room, length: u8, each: u8) -> Result<()> {
-    let key = vec![in alloc; b'k'; usize::from(length)]?;
+/// Appends versions of a key, of every type, with and without values.
+fn add_versions(room: &mut Room, key: &[u8], each: u8, case: &mut Case<'_>) {
     for n in 0..each {
         let value = if n % 3 == 0 { b"".as_slice() } else { b"value" };
-        let value_type = type_in_turn(n.wrapping_add(length));
+        let value_type = type_in_turn(n.wrapping_add((key.len() % 4) as u8));
         let seqno = u64::from(each.wrapping_sub(n));
-        let entry = entry_with(alloc, key.as_slice(), value, seqno, value_type)?;
-        room.entries.push(entry)?;
+        push(room, key, value, seqno, value_type, case);
     }
-    Ok(())
 }
 
 /// Appends the keys k, kk, kkk and so on up to a length, and a number of versions of each: KEYS
 /// EACH.
-fn add_prefixes(alloc: Global, room: &mut Room, words: &[&str]) -> Result<String> {
-    let [keys, each] = words else {
-        return Err(Fault::Word);
-    };
-    let (keys, each) = (small_of(keys)?, small_of(each)?);
-    for shorter in 0..keys {
-        add_versions(alloc, room, shorter.wrapping_add(1), each)?;
+fn add_prefixes(room: &mut Room, case: &mut Case<'_>) {
+    let (keys, each) = (case.small(), case.small());
+    if !case.ends() {
+        return;
     }
-    count(alloc, room)
+    match vec![in case.alloc; b'k'; usize::from(keys)] {
+        Ok(key) => {
+            for length in 1..=key.len() {
+                add_versions(room, &key[..length], each, case);
+            }
+        }
+        Err(_) => case.refuse(Error::Memory),
+    }
 }
 
 /// Views of entries.
@@ -111,35 +99,45 @@ pub fn views_of(alloc: Global, entries: &[InternalValue]) -> Result<Vec<EntryVie
 }
 
 /// Whether no entry sorts before its predecessor, by the entries and by views of them.
-fn ordered<H: BlockHash>(alloc: Global, room: &Room) -> Result<String> {
+fn ordered<H: BlockHash>(room: &Room, case: &mut Case<'_>) {
     let entries = room.entries.as_slice();
-    let views = views_of(alloc, entries)?;
-    alike(
-        alloc,
-        truth(alloc, DataBlock::<H>::is_ordered(entries)),
-        "by views",
-        truth(alloc, DataBlock::<H>::are_views_ordered(views.as_slice())),
-    )
+    let mut ways = case.ways();
+    case.put_truth(DataBlock::<H>::is_ordered(entries));
+    match views_of(case.alloc, entries) {
+        Ok(views) => {
+            case.other(&mut ways, "by views");
+            case.put_truth(DataBlock::<H>::are_views_ordered(views.as_slice()));
+            case.agree(&mut ways);
+        }
+        Err(fault) => case.note(fault),
+    }
+}
+
+/// Performs a command, if it is one that adds to the list.
+fn perform_add(room: &mut Room, name: &str, case: &mut Case<'_>) -> bool {
+    match name {
+        "list" => {
+            room.entries = Vec::new(case.alloc);
+            add(room, case);
+        }
+        "add" => add(room, case),
+        "bytes" => add_bytes(room, case),
+        "pairs" => add_pairs(room, case),
+        "prefixes" => add_prefixes(room, case),
+        _ => return false,
+    }
+    true
 }
 
 /// Performs a command, if it makes a list.
-pub fn perform<H: BlockHash>(
-    alloc: Global,
-    room: &mut Room,
-    name: &str,
-    words: &[&str],
-) -> Result<Option<String>> {
-    let answer = match name {
-        "list" => {
-            room.entries = Vec::new(alloc);
-            add(alloc, room, words)
-        }
-        "add" => add(alloc, room, words),
-        "bytes" => add_bytes(alloc, room, words),
-        "pairs" => add_pairs(alloc, room, words),
-        "prefixes" => add_prefixes(alloc, room, words),
-        "ordered" => ordered::<H>(alloc, room),
-        _ => return Ok(None),
-    };
-    Ok(Some(answer?))
+pub fn perform<H: BlockHash>(room: &mut Room, name: &str, case: &mut Case<'_>) -> bool {
+    if name == "ordered" {
+        ordered::<H>(room, case);
+        return true;
+    }
+    let is_add = perform_add(room, name, case);
+    if is_add {
+        case.put_count(room.entries.len(), " entries");
+    }
+    is_add
 }

@@ -1,8 +1,9 @@
 //! Files of cases: a line `COMMAND => RESULT` is a case, all others are comments.
 //!
-//! A case is performed once. Where allocations may be refused, one that tells of that instead of
+//! A case is performed once. Where allocations may be refused, one that says so instead of giving
 //! its result is performed again, and then has to give its result.
 
+use crate::case::Case;
 use crate::fault::{Fault, Result};
 use crate::room::Room;
 use crate::zero_hash::ZeroHash;
@@ -14,13 +15,8 @@ use std::rt::Files;
 
 /// The commands of a program that runs cases.
 pub trait Commands<R> {
-    /// Performs a command. Returns its result, or `None` if the command is none of these.
-    fn perform<H: BlockHash>(
-        rt: &R,
-        room: &mut Room,
-        name: &str,
-        words: &[&str],
-    ) -> Result<Option<String>>;
+    /// Performs a command. Returns whether it is one of these.
+    fn perform<H: BlockHash>(rt: &R, room: &mut Room, name: &str, case: &mut Case<'_>) -> bool;
 }
 
 /// The words of a line.
@@ -34,16 +30,29 @@ fn words_of(alloc: Global, line: &str) -> Result<Vec<&str>> {
     Ok(words)
 }
 
-/// Performs the command of a line. Returns its answer, or `None` if it is no command.
+/// Performs the command of some words, the first of which is its name.
 fn perform<H: BlockHash, C: Commands<R>, R: AllocGlobal>(
     rt: &R,
     room: &mut Room,
+    words: &[&str],
+) -> Result<String> {
+    let mut case = Case::new(rt.alloc(), words);
+    let name = case.word();
+    if !C::perform::<H>(rt, room, name, &mut case) {
+        case.note(Fault::Word);
+    }
+    case.result()
+}
+
+/// Performs the command of a line.
+fn perform_line<H: BlockHash, C: Commands<R>, R: AllocGlobal>(
+    rt: &R,
+    room: &mut Room,
     command: &str,
-) -> Result<Option<String>> {
-    let words = words_of(rt.alloc(), command)?;
-    match words.as_slice().split_first() {
-        Some((name, words)) => C::perform::<H>(rt, room, name, words),
-        None => Ok(None),
+) -> Result<String> {
+    match words_of(rt.alloc(), command) {
+        Ok(words) => perform::<H, C, R>(rt, room, words.as_slice()),
+        Err(fault) => Err(fault),
     }
 }
 
@@ -53,14 +62,13 @@ fn answer<H: BlockHash, C: Commands<R>, R: AllocGlobal>(
     room: &mut Room,
     command: &str,
 ) -> Result<String> {
-    match perform::<H, C, R>(rt, room, command) {
-        Ok(Some(text)) => Ok(text),
-        Ok(None) => Ok(format!(in rt.alloc(); "{:?}", Fault::Word)?),
+    match perform_line::<H, C, R>(rt, room, command) {
+        Ok(text) => Ok(text),
         Err(fault) => Ok(format!(in rt.alloc(); "{fault:?}")?),
     }
 }
 
-/// Whether each word of an answer is the one that is wanted, or tells of a refused allocation.
+/// Whether each word of an answer is the one that is wanted, or says that an allocation failed.
 fn are_refused(found: &str, wanted: &str) -> bool {
     let mut rest = wanted.split(' ');
     for word in found.split(' ') {
@@ -72,8 +80,8 @@ fn are_refused(found: &str, wanted: &str) -> bool {
     rest.next().is_none()
 }
 
-/// Whether an answer tells of a refused allocation, and of nothing else that is not wanted. A
-/// writer in memory that is refused room says `Io`.
+/// Whether an answer says that an allocation was refused, and nothing else that is not wanted. A
+/// writer in memory that is refused capacity says `Io`.
 fn is_refused(found: &str, wanted: &str) -> bool {
     found == "Refused(Memory)" || found == "Refused(Io)" || are_refused(found, wanted)
 }

@@ -77,29 +77,6 @@ pub fn bytes_of(alloc: Global, word: &str) -> Result<Vec<u8>> {
     Ok(bytes)
 }
 
-/// Returns the byte strings that words encode.
-pub fn all_bytes_of(alloc: Global, words: &[&str]) -> Result<Vec<Vec<u8>>> {
-    let mut all = Vec::new(alloc);
-    for word in words {
-        all.push(bytes_of(alloc, word)?)?;
-    }
-    Ok(all)
-}
-
-/// Appends the byte of the number that a word encodes.
-pub fn push_small(bytes: &mut Vec<u8>, word: &str) -> Result<()> {
-    let byte = small_of(word)?;
-    match bytes.push(byte) {
-        Ok(()) => Ok(()),
-        Err(_) => Err(Fault::Refused(Error::Memory)),
-    }
-}
-
-/// Returns the slice of the byte string that a word encodes.
-pub fn slice_of(alloc: Global, word: &str) -> Result<Slice> {
-    Ok(Slice::from_vec(bytes_of(alloc, word)?)?)
-}
-
 /// Returns the type that a letter names.
 pub fn type_of(letter: &str) -> Result<ValueType> {
     match letter {
@@ -112,7 +89,7 @@ pub fn type_of(letter: &str) -> Result<ValueType> {
 }
 
 /// Returns the letter of a type.
-fn letter_of(value_type: ValueType) -> &'static str {
+pub fn letter_of(value_type: ValueType) -> &'static str {
     match value_type {
         ValueType::Value => "V",
         ValueType::Tombstone => "T",
@@ -161,23 +138,6 @@ pub fn pair_of(word: &str, joint: char) -> Result<(&str, &str)> {
     }
 }
 
-/// Returns the entry that a word encodes: letter, sequence number, key and value, joined by dots.
-pub fn entry_of(alloc: Global, word: &str) -> Result<InternalValue> {
-    let (letter, seqno, key, value) = parts_of(word)?;
-    let (seqno, value_type) = (number_of(seqno)?, type_of(letter)?);
-    let (key, value) = (bytes_of(alloc, key)?, bytes_of(alloc, value)?);
-    entry_with(alloc, key.as_slice(), value.as_slice(), seqno, value_type)
-}
-
-/// Returns the entries that words encode.
-pub fn entries_of(alloc: Global, words: &[&str]) -> Result<Vec<InternalValue>> {
-    let mut entries = Vec::new(alloc);
-    for word in words {
-        entries.push(entry_of(alloc, word)?)?;
-    }
-    Ok(entries)
-}
-
 /// Returns bytes as hex digits, or `-` for none.
 pub fn hex_of(alloc: Global, bytes: &[u8]) -> Result<String> {
     if bytes.is_empty() {
@@ -186,126 +146,7 @@ pub fn hex_of(alloc: Global, bytes: &[u8]) -> Result<String> {
     Ok(hex::encode(alloc, bytes)?)
 }
 
-/// Returns the word of an entry.
-pub fn word_of(alloc: Global, entry: &InternalValue) -> Result<String> {
-    let key = entry.key();
-    let (letter, seqno) = (letter_of(key.value_type()), key.seqno());
-    let user_key = hex_of(alloc, key.user_key().as_slice())?;
-    let value = hex_of(alloc, entry.value().as_slice())?;
-    Ok(format!(in alloc; "{letter}.{seqno}.{user_key}.{value}")?)
-}
-
-/// Returns the word of an entry, or `none`.
-pub fn word_of_found(alloc: Global, found: Option<&InternalValue>) -> Result<String> {
-    match found {
-        Some(entry) => word_of(alloc, entry),
-        None => Ok(String::from_str(alloc, "none")?),
-    }
-}
-
-/// Returns the word of an entry that a read finds, or `none`.
-pub fn word_of_read(
-    alloc: Global,
-    read: sst_base::Result<Option<InternalValue>>,
-) -> Result<String> {
-    let found = read?;
-    word_of_found(alloc, found.as_ref())
-}
-
-/// Returns the word of a number.
-pub fn word_of_number(alloc: Global, number: u64) -> Result<String> {
-    Ok(format!(in alloc; "{number}")?)
-}
-
-/// Returns the word of a truth value.
-pub fn truth(alloc: Global, value: bool) -> Result<String> {
-    Ok(String::from_str(alloc, if value { "true" } else { "false" })?)
-}
-
-/// Appends a word to a text, after a space if it is not the first.
-pub fn push_word(text: &mut String, word: &str) -> Result<()> {
-    if !text.is_empty() {
-        text.push(' ')?;
-    }
-    text.push_str(word)?;
-    Ok(())
-}
-
-/// Words in a row, with a space between them. The first fault of one is kept: nothing is added
-/// after it.
-#[derive(Drop)]
-pub struct Row {
-    text: String,
-    fault: Option<Fault>,
-}
-
-impl Row {
-    /// Makes a row of no words.
-    pub fn new(alloc: Global) -> Row {
-        Row {
-            text: String::new(alloc),
-            fault: None,
-        }
-    }
-
-    /// Notes the fault of a call that adds no word, if it fails.
-    pub fn note(&mut self, done: Result<()>) {
-        if let Err(fault) = done
-            && self.fault.is_none()
-        {
-            self.fault = Some(fault);
-        }
-    }
-
-    /// Appends a word.
-    pub fn push(&mut self, word: &str) {
-        if self.fault.is_none() {
-            let done = push_word(&mut self.text, word);
-            self.note(done);
-        }
-    }
-
-    /// Appends the word that a call returns, or notes why it returns none.
-    pub fn add(&mut self, word: Result<String>) {
-        match word {
-            Ok(word) => self.push(word.as_str()),
-            Err(fault) => self.note(Err(fault)),
-        }
-    }
-
-    /// Returns the words.
-    ///
-    /// # Errors
-    ///
-    /// The first fault.
-    pub fn text(self) -> Result<String> {
-        let Row { text, fault } = self;
-        match fault {
-            Some(fault) => Err(fault),
-            None => Ok(text),
-        }
-    }
-}
-
-/// Returns an answer that is also given in another way, or both where they differ.
-///
-/// # Errors
-///
-/// The fault of the answer, or else that of the other way.
-pub fn alike(
-    alloc: Global,
-    answer: Result<String>,
-    way: &str,
-    other: Result<String>,
-) -> Result<String> {
-    let (answer, other) = (answer?, other?);
-    if answer == other {
-        return Ok(answer);
-    }
-    Ok(format!(in alloc; "{answer}, {way} {other}")?)
-}
-
-/// The name of a word and how often it stands: a name with `*` and a number after it, else once.
+/// The name of a word and how often it is repeated: a name with `*` and a number, else once.
 fn repetition_of(word: &str) -> (&str, u16) {
     let Some((name, times)) = word.split_once('*') else {
         return (word, 1);
@@ -319,7 +160,7 @@ fn repetition_of(word: &str) -> (&str, u16) {
     }
 }
 
-/// Returns words, of which one with `*` and a number after its name stands for as many.
+/// Returns words, of which one with `*` and a number after its name is repeated as often.
 pub fn repeated<'a>(alloc: Global, words: &[&'a str]) -> Result<Vec<&'a str>> {
     let mut all = Vec::new(alloc);
     for word in words {

@@ -1,48 +1,57 @@
 //! Commands on frames, filters and runs, also performed with each change of the payload.
 
 use crate::{filters, frames, runs};
-use sst_base::BlockHash;
+use sst_base::{BlockHash, Error};
+use sst_block_cases::case::Case;
 use sst_block_cases::changes::changed;
 use sst_block_cases::digest::Digest;
 use sst_block_cases::fault::{Fault, Result};
 use sst_block_cases::room::Room;
-use std::alloc::Global;
 
 /// Performs a command, if it is one on frames, filters or runs.
-fn perform_one<H: BlockHash>(
-    alloc: Global,
-    room: &mut Room,
-    name: &str,
-    words: &[&str],
-) -> Option<Result<String>> {
-    if let Some(answer) = frames::perform::<H>(alloc, room, name, words) {
-        return Some(answer);
-    }
-    if let Some(answer) = filters::perform::<H>(alloc, room, name, words) {
-        return Some(answer);
-    }
-    runs::perform::<H>(alloc, room, name, words)
+fn perform_one<H: BlockHash>(room: &mut Room, name: &str, case: &mut Case<'_>) -> bool {
+    frames::perform::<H>(room, name, case)
+        || filters::perform::<H>(room, name, case)
+        || runs::perform::<H>(room, name, case)
 }
 
-/// Adds what a command answers to a digest. Returns whether it is no error.
-fn add<H: BlockHash>(
-    alloc: Global,
+/// How many results of a command are no errors, and the digest of all.
+#[derive(Clone, Copy)]
+struct Results {
+    accepted: usize,
+    digest: Digest,
+}
+
+impl Results {
+    /// Adds the result of a command.
+    fn add(&mut self, made: &Result<String>, case: &mut Case<'_>) {
+        let start = case.mark();
+        match made {
+            Ok(text) => {
+                self.accepted = self.accepted.saturating_add(1);
+                self.digest.add(text.as_str());
+            }
+            Err(fault) => {
+                case.put_debug(fault);
+                self.digest.add(case.text_from(start));
+                case.cut(start);
+            }
+        }
+    }
+}
+
+/// Performs a command of some words.
+fn result_of<H: BlockHash>(
     room: &mut Room,
     name: &str,
     words: &[&str],
-    results: &mut Digest,
-) -> Result<bool> {
-    match perform_one::<H>(alloc, room, name, words) {
-        Some(Ok(text)) => {
-            results.add(text.as_str());
-            Ok(true)
-        }
-        None => Err(Fault::Word),
-        Some(Err(fault)) => {
-            results.add(format!(in alloc; "{fault:?}")?.as_str());
-            Ok(false)
-        }
+    case: &mut Case<'_>,
+) -> Result<String> {
+    let mut inner = Case::new(case.alloc, words);
+    if !perform_one::<H>(room, name, &mut inner) {
+        case.note(Fault::Word);
     }
+    inner.result()
 }
 
 /// Returns the number, among all changes of this many bytes, of the one with a number among those
@@ -66,71 +75,55 @@ fn count_of(len: usize, is_flip: bool) -> usize {
     len.saturating_mul(per_byte).saturating_add(6)
 }
 
-/// Adds what a command answers with a change of a payload. Returns whether it is no error.
-fn add_changed<H: BlockHash>(
-    alloc: Global,
-    room: &mut Room,
-    words: &[&str],
-    payload: &[u8],
-    number: usize,
-    results: &mut Digest,
-) -> Result<bool> {
-    let Some((name, words)) = words.split_first() else {
-        return Err(Fault::Word);
-    };
-    room.payload = changed(alloc, payload, number)?;
-    add::<H>(alloc, room, name, words, results)
-}
-
-/// Performs a command with each change of a payload: how many answers are no errors, and a digest.
+/// Performs a command with each change of a payload: how many results are no errors, and a digest.
 fn each_of<H: BlockHash>(
-    alloc: Global,
     room: &mut Room,
-    words: &[&str],
     payload: &[u8],
     is_flip: bool,
-) -> Result<(usize, Digest)> {
+    case: &mut Case<'_>,
+) -> Results {
+    let mut results = Results {
+        accepted: 0,
+        digest: Digest::new(),
+    };
+    let (name, words) = (case.word(), case.rest());
     let len = payload.len();
-    let (mut accepted, mut results) = (0usize, Digest::new());
     for number in 0..count_of(len, is_flip) {
         let number = if is_flip {
             flip_of(len, number)
         } else {
             number
         };
-        if add_changed::<H>(alloc, room, words, payload, number, &mut results)? {
-            accepted = accepted.saturating_add(1);
+        if let Some(changed) = case.made(changed(case.alloc, payload, number)) {
+            room.payload = changed;
         }
+        let result = result_of::<H>(room, name, words, case);
+        results.add(&result, case);
     }
-    Ok((accepted, results))
+    results
 }
 
 /// Performs a command with each change of the payload, or with each of a single bit: how many
-/// answers are no errors, and a digest of all: COMMAND WORD ..
-fn each<H: BlockHash>(
-    alloc: Global,
-    room: &mut Room,
-    words: &[&str],
-    is_flip: bool,
-) -> Result<String> {
-    let payload = room.payload.to_vec(alloc)?;
-    let (accepted, results) = each_of::<H>(alloc, room, words, payload.as_slice(), is_flip)?;
-    room.payload = payload;
-    let state = results.state;
-    Ok(format!(in alloc; "{accepted} accepted, {state:016x}")?)
+/// results are no errors, and a digest of all: COMMAND WORD ..
+fn each<H: BlockHash>(room: &mut Room, is_flip: bool, case: &mut Case<'_>) {
+    match room.payload.to_vec(case.alloc) {
+        Ok(payload) => {
+            let results = each_of::<H>(room, payload.as_slice(), is_flip, case);
+            room.payload = payload;
+            case.put_count(results.accepted, " accepted, ");
+            case.put_hex(results.digest.state);
+        }
+        Err(_) => case.refuse(Error::Memory),
+    }
 }
 
 /// Performs a command, if it is one on frames, filters or runs, or one of these with each change of
 /// the payload.
-pub fn perform<H: BlockHash>(
-    alloc: Global,
-    room: &mut Room,
-    name: &str,
-    words: &[&str],
-) -> Result<Option<String>> {
+pub fn perform<H: BlockHash>(room: &mut Room, name: &str, case: &mut Case<'_>) -> bool {
     match name {
-        "each" => Ok(Some(each::<H>(alloc, room, words, false)?)),
-        "flips" => Ok(Some(each::<H>(alloc, room, words, true)?)),
-        _ => perform_one::<H>(alloc, room, name, words).transpose(),
+        "each" => each::<H>(room, false, case),
+        "flips" => each::<H>(room, true, case),
+        _ => return perform_one::<H>(room, name, case),
     }
+    true
 }

@@ -2,10 +2,9 @@
 ghost use Rattle.std.specs.Prelude.{◌≡◌};
 
 use sst_base::{BlockHash, BlockType};
+use sst_block_cases::case::Case;
 use sst_block_cases::fault::{Fault, Result};
 use sst_block_cases::room::{Room, block_with};
-use sst_block_cases::texts::agreed;
-use sst_block_cases::words::{bytes_of, hex_of, number_of, push_word, size_of, small_of};
 use sstable_blocks::table::filter::bit_array::{self, BitArrayReader};
 use sstable_blocks::table::filter::standard_bloom::{
     Builder, StandardBloomFilterReader, secondary_hash,
@@ -26,23 +25,28 @@ fn empty(alloc: Global, keys: usize, bits_per_key: u32, by_policy: bool) -> Resu
     }
 }
 
-/// Inserts hashes in a filter, and makes its payload that of the room.
-fn insert(alloc: Global, room: &mut Room, filter: &mut Builder, hashes: &[&str]) -> Result<String> {
-    for hash in hashes {
-        filter.set_with_hash(number_of(hash)?);
+/// Inserts the hashes of the words in a filter, and makes its payload that of the room.
+fn insert(room: &mut Room, filter: &mut Builder, case: &mut Case<'_>) {
+    for hash in case.rest() {
+        filter.set_with_hash(case.number_in(hash));
     }
-    room.payload = filter.build(alloc)?;
-    Ok(format!(in alloc; "{} bytes", room.payload.len())?)
+    match filter.build(case.alloc) {
+        Ok(payload) => {
+            room.payload = payload;
+            case.put_count(room.payload.len(), " bytes");
+        }
+        Err(error) => case.refuse(error),
+    }
 }
 
 /// Makes a filter of hashes: POLICY KEYS BITS HASH ..
-fn build(alloc: Global, room: &mut Room, words: &[&str]) -> Result<String> {
-    let [by, keys, bits, hashes @ ..] = words else {
-        return Err(Fault::Word);
-    };
-    let keys = number_of(keys)? as usize;
-    let mut filter = empty(alloc, keys, size_of(bits)?, *by == "policy")?;
-    insert(alloc, room, &mut filter, hashes)
+fn build(room: &mut Room, case: &mut Case<'_>) {
+    let by = case.word();
+    let (keys, bits) = (case.number() as usize, case.size());
+    match empty(case.alloc, keys, bits, by == "policy") {
+        Ok(mut filter) => insert(room, &mut filter, case),
+        Err(fault) => case.note(fault),
+    }
 }
 
 /// Returns the payload as the block of a filter.
@@ -52,105 +56,99 @@ fn block_of(alloc: Global, room: &Room) -> Result<FilterBlock> {
     Ok(block.clone()?)
 }
 
-/// Returns the word of a truth value.
-fn truth_of(value: bool) -> &'static str {
-    if value { "true" } else { "false" }
-}
-
-/// A filter, by its reader or by its block.
-#[derive(Clone, Copy)]
-enum Filter<'a> {
-    Reader(&'a StandardBloomFilterReader<'a>),
-    Block(&'a FilterBlock),
-}
-
-/// Appends whether a filter may contain a hash.
-fn push_hashed(text: &mut String, filter: Filter<'_>, hash: &str) -> Result<()> {
-    let hash = number_of(hash)?;
-    let found = match filter {
-        Filter::Reader(reader) => reader.contains_hash(hash),
-        Filter::Block(block) => block.maybe_contains_hash(hash)?,
-    };
-    push_word(text, truth_of(found))
-}
-
-/// Returns whether a filter may contain hashes.
-fn of_filter(alloc: Global, filter: Filter<'_>, hashes: &[&str]) -> Result<String> {
-    let mut text = String::new(alloc);
-    for hash in hashes {
-        push_hashed(&mut text, filter, hash)?;
+/// Whether the payload, read as a filter, may contain hashes.
+fn by_reader(room: &Room, hashes: &[&str], case: &mut Case<'_>) {
+    match StandardBloomFilterReader::new(room.payload.as_slice()) {
+        Ok(reader) => {
+            for hash in hashes {
+                case.space();
+                let hash = case.number_in(hash);
+                case.put_truth(reader.contains_hash(hash));
+            }
+        }
+        Err(error) => case.refuse(error),
     }
-    Ok(text)
 }
 
-/// Returns whether the payload, read as a filter, may contain hashes.
-fn by_reader(alloc: Global, room: &Room, hashes: &[&str]) -> Result<String> {
-    let reader = StandardBloomFilterReader::new(room.payload.as_slice())?;
-    of_filter(alloc, Filter::Reader(&reader), hashes)
+/// Whether the block of a filter may contain a hash.
+fn put_in_block(block: &FilterBlock, hash: &str, case: &mut Case<'_>) {
+    let hash = case.number_in(hash);
+    case.space();
+    match block.maybe_contains_hash(hash) {
+        Ok(found) => case.put_truth(found),
+        Err(error) => case.refuse(error),
+    }
 }
 
-/// Returns the same as the block of a filter says.
-fn by_block(alloc: Global, room: &Room, hashes: &[&str]) -> Result<String> {
-    let block = block_of(alloc, room)?;
-    of_filter(alloc, Filter::Block(&block), hashes)
+/// Whether the block of a filter may contain hashes.
+fn by_block(room: &Room, hashes: &[&str], case: &mut Case<'_>) {
+    match block_of(case.alloc, room) {
+        Ok(block) => {
+            for hash in hashes {
+                put_in_block(&block, hash, case);
+            }
+        }
+        Err(fault) => case.note(fault),
+    }
 }
 
 /// Whether the payload may contain hashes, by the reader and by the block, which agree: HASH ..
-fn hashed(alloc: Global, room: &Room, hashes: &[&str]) -> Result<String> {
-    let found = [
-        by_reader(alloc, room, hashes),
-        by_block(alloc, room, hashes),
-    ];
-    agreed(alloc, &found)
+fn hashed(room: &Room, case: &mut Case<'_>) {
+    let hashes = case.rest();
+    let mut ways = case.ways();
+    by_reader(room, hashes, case);
+    case.another(&mut ways);
+    by_block(room, hashes, case);
+    case.agreed(&mut ways);
 }
 
-/// Appends whether a filter may contain a key, with a mark where it says otherwise of its hash.
-fn push_keyed<H: BlockHash>(
-    text: &mut String,
+/// Adds whether a filter may contain a key, with a mark where it says otherwise of its hash.
+fn put_keyed<H: BlockHash>(
     reader: &StandardBloomFilterReader<'_>,
     key: &[u8],
-) -> Result<()> {
+    case: &mut Case<'_>,
+) {
     let found = reader.contains::<H>(key);
-    push_word(text, truth_of(found))?;
+    case.space();
+    case.put_truth(found);
     if found != reader.contains_hash(Builder::get_hash::<H>(key)) {
-        text.push('!')?;
+        case.put("!");
     }
-    Ok(())
-}
-
-/// Appends whether a filter may contain the key of a word.
-fn push_key<H: BlockHash>(
-    alloc: Global,
-    text: &mut String,
-    reader: &StandardBloomFilterReader<'_>,
-    word: &str,
-) -> Result<()> {
-    let key = bytes_of(alloc, word)?;
-    push_keyed::<H>(text, reader, key.as_slice())
 }
 
 /// Whether the payload may contain keys: KEY ..
-fn keyed<H: BlockHash>(alloc: Global, room: &Room, keys: &[&str]) -> Result<String> {
-    let reader = StandardBloomFilterReader::new(room.payload.as_slice())?;
-    let mut text = String::new(alloc);
-    for key in keys {
-        push_key::<H>(alloc, &mut text, &reader, key)?;
+fn keyed<H: BlockHash>(room: &Room, case: &mut Case<'_>) {
+    match StandardBloomFilterReader::new(room.payload.as_slice()) {
+        Ok(reader) => {
+            for key in case.rest() {
+                let key = case.bytes_in(key);
+                put_keyed::<H>(&reader, key.as_slice(), case);
+            }
+        }
+        Err(error) => case.refuse(error),
     }
-    Ok(text)
 }
 
-/// Returns the length of the payload as the block of a filter.
-fn size_of_block(alloc: Global, room: &Room) -> Result<u32> {
-    let block = block_of(alloc, room)?;
-    Ok(block.size())
+/// The length of the payload as the block of a filter.
+fn put_size(room: &Room, case: &mut Case<'_>) {
+    match block_of(case.alloc, room) {
+        Ok(block) => case.put_number(u64::from(block.size())),
+        Err(fault) => case.note(fault),
+    }
+    case.put(" bytes, ");
 }
 
 /// The numbers of the payload as a filter: its length with its front, its bits and its probes.
-fn numbers(alloc: Global, room: &Room) -> Result<String> {
-    let size = size_of_block(alloc, room)?;
-    let reader = StandardBloomFilterReader::new(room.payload.as_slice())?;
-    let (len, probes) = (reader.len(), reader.probe_count());
-    Ok(format!(in alloc; "{size} bytes, {len} of bits, {probes} probes")?)
+fn numbers(room: &Room, case: &mut Case<'_>) {
+    put_size(room, case);
+    match StandardBloomFilterReader::new(room.payload.as_slice()) {
+        Ok(reader) => {
+            case.put_count(reader.len(), " of bits, ");
+            case.put_display(&reader.probe_count());
+            case.put(" probes");
+        }
+        Err(error) => case.refuse(error),
+    }
 }
 
 /// The hash of a number as a key of eight bytes.
@@ -173,142 +171,148 @@ fn filled<H: BlockHash>(alloc: Global, count: usize, bits_per_key: u32) -> Resul
 }
 
 /// How many of the numbers from a first to a last one a filter may contain.
-fn count_found<H: BlockHash>(payload: &[u8], first: &str, last: &str) -> Result<usize> {
-    let reader = StandardBloomFilterReader::new(payload)?;
+fn count_found<H: BlockHash>(
+    reader: &StandardBloomFilterReader<'_>,
+    first: u64,
+    last: u64,
+) -> usize {
     let mut found = 0usize;
-    for number in number_of(first)?..number_of(last)? {
+    for number in first..last {
         if reader.contains_hash(hash_of::<H>(number)) {
             found = found.saturating_add(1);
         }
     }
-    Ok(found)
+    found
+}
+
+/// The length of a filter's payload, and how many of the numbers from a first to a last one it may
+/// contain.
+fn put_found<H: BlockHash>(payload: &[u8], first: u64, last: u64, case: &mut Case<'_>) {
+    match StandardBloomFilterReader::new(payload) {
+        Ok(reader) => {
+            case.put_count(payload.len(), " bytes, ");
+            case.put_count(count_found::<H>(&reader, first, last), " found");
+        }
+        Err(error) => case.refuse(error),
+    }
 }
 
 /// How many of the numbers from a first to a last one a filter of the numbers below a count may
 /// contain: COUNT BITS FIRST LAST.
-fn sweep<H: BlockHash>(alloc: Global, words: &[&str]) -> Result<String> {
-    let [count, bits, first, last] = words else {
-        return Err(Fault::Word);
-    };
-    let payload = filled::<H>(alloc, number_of(count)? as usize, size_of(bits)?)?;
-    let found = count_found::<H>(payload.as_slice(), first, last)?;
-    Ok(format!(in alloc; "{} bytes, {found} found", payload.len())?)
-}
-
-/// Returns whether a policy makes filters, and whether it is the default one.
-fn state_of(policy: BloomConstructionPolicy) -> &'static str {
-    let is_default = policy == BloomConstructionPolicy::default();
-    match (is_default, policy.is_active()) {
-        (true, true) => "default, active",
-        (true, false) => "default, inactive",
-        (false, true) => "active",
-        (false, false) => "inactive",
+fn sweep<H: BlockHash>(case: &mut Case<'_>) {
+    let (count, bits) = (case.number() as usize, case.size());
+    let (first, last) = (case.number(), case.number());
+    if !case.ends() {
+        return;
     }
-}
-
-/// Returns what a policy says of so many keys.
-fn text_of(alloc: Global, policy: BloomConstructionPolicy, keys: usize) -> Result<String> {
-    let state = state_of(policy);
-    if policy.fits(keys) {
-        let size = policy.estimated_filter_size(keys);
-        Ok(format!(in alloc; "{state}, {size} bytes")?)
-    } else {
-        Ok(format!(in alloc; "{state}, too long")?)
+    match filled::<H>(case.alloc, count, bits) {
+        Ok(payload) => put_found::<H>(payload.as_slice(), first, last, case),
+        Err(fault) => case.note(fault),
     }
 }
 
 /// What a policy says of so many keys: BITS KEYS.
-fn policy(alloc: Global, words: &[&str]) -> Result<String> {
-    let [bits, keys] = words else {
-        return Err(Fault::Word);
-    };
-    let policy = BloomConstructionPolicy::BitsPerKey(size_of(bits)?);
-    text_of(alloc, policy, number_of(keys)? as usize)
+fn policy(case: &mut Case<'_>) {
+    let policy = BloomConstructionPolicy::BitsPerKey(case.size());
+    let keys = case.number() as usize;
+    if !case.ends() {
+        return;
+    }
+    if policy == BloomConstructionPolicy::default() {
+        case.put("default, ");
+    }
+    case.put(if policy.is_active() {
+        "active, "
+    } else {
+        "inactive, "
+    });
+    if policy.fits(keys) {
+        case.put_count(policy.estimated_filter_size(keys), " bytes");
+    } else {
+        case.put("too long");
+    }
+}
+
+/// Returns bytes with a bit that is set, if they have it.
+fn with_bit(alloc: Global, bytes: &[u8], index: usize) -> Result<Vec<u8>> {
+    let mut bits = bit_array::Builder::from_bytes(bytes.to_vec(alloc)?);
+    if index / 8 < bits.bytes().len() {
+        bits.enable_bit(index);
+    }
+    Ok(bits.bytes().to_vec(alloc)?)
 }
 
 /// Sets a bit of the payload: INDEX.
-fn set_bit(alloc: Global, room: &mut Room, words: &[&str]) -> Result<String> {
-    let [index] = words else {
-        return Err(Fault::Word);
-    };
-    let index = number_of(index)? as usize;
-    let mut bits = bit_array::Builder::from_bytes(room.payload.to_vec(alloc)?);
-    if index / 8 >= bits.bytes().len() {
-        return Err(Fault::Word);
+fn set_bit(room: &mut Room, case: &mut Case<'_>) {
+    let index = case.number() as usize;
+    if !case.ends() || index / 8 >= room.payload.len() {
+        case.note(Fault::Word);
+        return;
     }
-    bits.enable_bit(index);
-    room.payload = bits.bytes().to_vec(alloc)?;
-    hex_of(alloc, room.payload.as_slice())
-}
-
-/// Appends the index of a bit.
-fn push_index(alloc: Global, text: &mut String, index: usize) -> Result<()> {
-    let word = format!(in alloc; "{index}")?;
-    push_word(text, word.as_str())
+    match with_bit(case.alloc, room.payload.as_slice(), index) {
+        Ok(bytes) => room.payload = bytes,
+        Err(fault) => case.note(fault),
+    }
+    case.put_bytes(room.payload.as_slice());
 }
 
 /// The bits of the payload that are set.
-fn bits(alloc: Global, room: &Room) -> Result<String> {
+fn bits(room: &Room, case: &mut Case<'_>) {
     let bits = BitArrayReader::new(room.payload.as_slice());
-    let mut text = String::new(alloc);
     for index in 0..room.payload.len().saturating_mul(8) {
         if index / 8 < bits.bytes().len() && bits.get(index) {
-            push_index(alloc, &mut text, index)?;
+            case.space();
+            case.put_count(index, "");
         }
     }
-    Ok(text)
 }
 
 /// The number by which the probes of a hash are apart: HASH.
-fn secondary(alloc: Global, words: &[&str]) -> Result<String> {
-    let [hash] = words else {
-        return Err(Fault::Word);
-    };
-    let number = secondary_hash(number_of(hash)?);
-    Ok(format!(in alloc; "{number}")?)
+fn secondary(case: &mut Case<'_>) {
+    let hash = case.number();
+    if case.ends() {
+        case.put_number(secondary_hash(hash));
+    }
 }
 
 /// The filter type of a byte: BYTE.
-fn type_of(alloc: Global, words: &[&str]) -> Result<String> {
-    let [byte] = words else {
-        return Err(Fault::Word);
-    };
-    let byte = small_of(byte)?;
-    let kind = FilterType::try_from(byte)?;
-    let again = u8::from(kind);
-    Ok(format!(in alloc; "{kind:?} {again}")?)
+fn type_of(case: &mut Case<'_>) {
+    let byte = case.small();
+    if !case.ends() {
+        return;
+    }
+    match FilterType::try_from(byte) {
+        Ok(kind) => {
+            case.put_debug(&kind);
+            case.put(" ");
+            case.put_number(u64::from(u8::from(kind)));
+        }
+        Err(error) => case.refuse(error),
+    }
 }
 
 /// Performs a command on bits and numbers, if it is one.
-fn perform_small(
-    alloc: Global,
-    room: &mut Room,
-    name: &str,
-    words: &[&str],
-) -> Option<Result<String>> {
-    Some(match name {
-        "policy" => policy(alloc, words),
-        "bit" => set_bit(alloc, room, words),
-        "bits" => bits(alloc, room),
-        "secondary" => secondary(alloc, words),
-        "filter-type" => type_of(alloc, words),
-        _ => return None,
-    })
+fn perform_small(room: &mut Room, name: &str, case: &mut Case<'_>) -> bool {
+    match name {
+        "policy" => policy(case),
+        "bit" => set_bit(room, case),
+        "bits" => bits(room, case),
+        "secondary" => secondary(case),
+        "filter-type" => type_of(case),
+        _ => return false,
+    }
+    true
 }
 
 /// Performs a command, if it is one on filters.
-pub fn perform<H: BlockHash>(
-    alloc: Global,
-    room: &mut Room,
-    name: &str,
-    words: &[&str],
-) -> Option<Result<String>> {
-    Some(match name {
-        "filter" => build(alloc, room, words),
-        "numbers" => numbers(alloc, room),
-        "hashed" => hashed(alloc, room, words),
-        "keyed" => keyed::<H>(alloc, room, words),
-        "sweep" => sweep::<H>(alloc, words),
-        _ => return perform_small(alloc, room, name, words),
-    })
+pub fn perform<H: BlockHash>(room: &mut Room, name: &str, case: &mut Case<'_>) -> bool {
+    match name {
+        "filter" => build(room, case),
+        "numbers" => numbers(room, case),
+        "hashed" => hashed(room, case),
+        "keyed" => keyed::<H>(room, case),
+        "sweep" => sweep::<H>(case),
+        _ => return perform_small(room, name, case),
+    }
+    true
 }

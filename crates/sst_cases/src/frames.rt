@@ -2,11 +2,11 @@
 
 use sst_base::coding::{Decode, Encode};
 use sst_base::table::block::{Block, BlockHandle, BlockOffset, BlockType, Header};
-use sst_base::{BlockHash, Slice};
-use sst_block_cases::fault::{Fault, Result};
+use sst_base::{BlockHash, Error, Result, Slice};
+use sst_block_cases::case::Case;
+use sst_block_cases::fault::Fault;
 use sst_block_cases::room::Room;
-use sst_block_cases::texts::shown;
-use sst_block_cases::words::{hex_of, number_of, size_of};
+use sst_block_cases::texts::put_shown;
 use std::alloc::Global;
 use std::io::Cursor;
 
@@ -20,34 +20,41 @@ enum Way {
 }
 
 /// Returns the block type of a word.
-fn type_of(word: &str) -> Result<BlockType> {
+fn type_of(word: &str) -> Option<BlockType> {
     match word {
-        "data" => Ok(BlockType::Data),
-        "index" => Ok(BlockType::Index),
-        "filter" => Ok(BlockType::Filter),
-        "meta" => Ok(BlockType::Meta),
-        _ => Err(Fault::Word),
+        "data" => Some(BlockType::Data),
+        "index" => Some(BlockType::Index),
+        "filter" => Some(BlockType::Filter),
+        "meta" => Some(BlockType::Meta),
+        _ => None,
     }
 }
 
-/// Returns the text of a header.
-fn text_of(alloc: Global, header: &Header) -> Result<String> {
-    let (kind, checksum) = (header.block_type, header.checksum.into_u128());
-    let (length, uncompressed) = (header.data_length, header.uncompressed_length);
-    Ok(format!(in alloc; "{kind:?}, checksum {checksum}, lengths {length} {uncompressed}")?)
+/// Adds a header.
+fn put_header(header: &Header, case: &mut Case<'_>) {
+    case.put_debug(&header.block_type);
+    case.put(", checksum ");
+    case.put_display(&header.checksum.into_u128());
+    case.put(", lengths ");
+    case.put_number(u64::from(header.data_length));
+    case.put(" ");
+    case.put_number(u64::from(header.uncompressed_length));
 }
 
 /// Makes the payload its frame: TYPE.
-fn frame<H: BlockHash>(alloc: Global, room: &mut Room, words: &[&str]) -> Result<String> {
-    let [kind] = words else {
-        return Err(Fault::Word);
+fn frame<H: BlockHash>(room: &mut Room, case: &mut Case<'_>) {
+    let Some(kind) = type_of(case.word()) else {
+        case.note(Fault::Word);
+        return;
     };
-    let kind = type_of(kind)?;
-    let mut frame = Vec::new(alloc);
-    let header = Block::write_into::<H, Vec<u8>>(&mut frame, room.payload.as_slice(), kind)?;
-    let text = text_of(alloc, &header)?;
-    room.payload = frame;
-    Ok(text)
+    let mut frame = Vec::new(case.alloc);
+    match Block::write_into::<H, Vec<u8>>(&mut frame, room.payload.as_slice(), kind) {
+        Ok(header) => {
+            put_header(&header, case);
+            room.payload = frame;
+        }
+        Err(error) => case.refuse(error),
+    }
 }
 
 /// Puts bytes in the place of those from an index on.
@@ -69,63 +76,70 @@ fn mend_payload<H: BlockHash>(bytes: &mut [u8]) {
     put(bytes, 5, &sum);
 }
 
-/// Returns the payload with checksums that fit: none, that of the header, or both.
-fn mended<H: BlockHash>(alloc: Global, room: &Room, which: &str) -> Result<Vec<u8>> {
-    let mut bytes = room.payload.to_vec(alloc)?;
+/// Sets the checksums of bytes to those that fit: none, that of the header, or both.
+fn mend<H: BlockHash>(bytes: &mut [u8], which: &str, case: &mut Case<'_>) {
     match which {
         "none" => {}
-        "header" => mend_header::<H>(bytes.as_mut_slice()),
+        "header" => mend_header::<H>(bytes),
         "both" => {
-            mend_payload::<H>(bytes.as_mut_slice());
-            mend_header::<H>(bytes.as_mut_slice());
+            mend_payload::<H>(bytes);
+            mend_header::<H>(bytes);
         }
-        _ => return Err(Fault::Word),
+        _ => case.note(Fault::Word),
     }
-    Ok(bytes)
 }
 
-/// Returns what is seen of a block that was read.
-fn seen(alloc: Global, block: &Block, left: usize) -> Result<String> {
-    let header = text_of(alloc, block.header())?;
-    let payload = shown(alloc, block.data().as_slice())?;
-    Ok(format!(in alloc; "{header}, payload {payload}, {left} left")?)
+/// Adds what is seen of a block that was read.
+fn put_block(block: Result<Block>, left: usize, case: &mut Case<'_>) {
+    match block {
+        Ok(block) => {
+            put_header(block.header(), case);
+            case.put(", payload ");
+            put_shown(block.data().as_slice(), case);
+            case.put(", ");
+            case.put_count(left, " left");
+        }
+        Err(error) => case.refuse(error),
+    }
 }
 
 /// Reads the frame at the start of bytes.
-fn stream<H: BlockHash>(alloc: Global, bytes: &[u8]) -> Result<String> {
+fn stream<H: BlockHash>(bytes: &[u8], case: &mut Case<'_>) {
     let mut rest = bytes;
-    let block = Block::from_reader::<H, &[u8]>(alloc, &mut rest)?;
-    seen(alloc, &block, rest.len())
+    let block = Block::from_reader::<H, &[u8]>(case.alloc, &mut rest);
+    put_block(block, rest.len(), case);
 }
 
 /// Reads the frame that all bytes are.
-fn whole<H: BlockHash>(alloc: Global, bytes: &[u8]) -> Result<String> {
-    let block = Block::from_frame::<H>(Slice::new(alloc, bytes)?)?;
-    seen(alloc, &block, 0)
+fn whole<H: BlockHash>(bytes: &[u8], case: &mut Case<'_>) {
+    match Slice::new(case.alloc, bytes) {
+        Ok(bytes) => put_block(Block::from_frame::<H>(bytes), 0, case),
+        Err(error) => case.refuse(error),
+    }
 }
 
-/// Returns the bytes of a header.
-fn bytes_of_header<H: BlockHash>(alloc: Global, header: &Header) -> Result<Vec<u8>> {
-    let mut bytes = Vec::new(alloc);
-    header.encode_into::<H, Vec<u8>>(&mut bytes)?;
-    Ok(bytes)
-}
-
-/// Returns what is seen of a header, and how many bytes are left after it.
-fn seen_header(alloc: Global, header: &Header, left: usize) -> Result<String> {
-    let text = text_of(alloc, header)?;
-    Ok(format!(in alloc; "{text}, {left} left")?)
+/// Adds a header, and how many bytes are left after it, if its bytes are encoded again; else the
+/// bytes as they are.
+fn put_again<H: BlockHash>(header: &Header, bytes: &[u8], left: usize, case: &mut Case<'_>) {
+    let mut again = Vec::new(case.alloc);
+    if let Err(error) = header.encode_into::<H, Vec<u8>>(&mut again) {
+        case.refuse(error);
+    }
+    if bytes.get(..33) == Some(again.as_slice()) {
+        put_header(header, case);
+        case.put(", ");
+        case.put_count(left, " left");
+    } else {
+        case.put_bytes(again.as_slice());
+    }
 }
 
 /// Reads the header at the start of bytes, and encodes it again.
-fn header<H: BlockHash>(alloc: Global, bytes: &[u8]) -> Result<String> {
+fn header<H: BlockHash>(bytes: &[u8], case: &mut Case<'_>) {
     let mut rest = bytes;
-    let header = Header::decode_from::<H, &[u8]>(&mut rest)?;
-    let again = bytes_of_header::<H>(alloc, &header)?;
-    if bytes.get(..33) == Some(again.as_slice()) {
-        seen_header(alloc, &header, rest.len())
-    } else {
-        hex_of(alloc, again.as_slice())
+    match Header::decode_from::<H, &[u8]>(&mut rest) {
+        Ok(header) => put_again::<H>(&header, bytes, rest.len(), case),
+        Err(error) => case.refuse(error),
     }
 }
 
@@ -138,71 +152,81 @@ fn bytes_of_handle(alloc: Global, handle: &BlockHandle) -> Result<(Vec<u8>, bool
     Ok((bytes, is_same))
 }
 
-/// Returns what is seen of a lone handle, and how many bytes are left after it.
-fn seen_handle(alloc: Global, handle: &BlockHandle, left: usize) -> Result<String> {
-    let (offset, size) = (*handle.offset(), handle.size());
-    Ok(format!(in alloc; "{offset} {size}, {left} left")?)
+/// Adds a lone handle, and how many bytes are left after it, if its bytes are encoded again; else
+/// the bytes as they are.
+fn put_handle(handle: &BlockHandle, bytes: &[u8], left: usize, case: &mut Case<'_>) {
+    let Some((again, is_same)) = case.got(bytes_of_handle(case.alloc, handle)) else {
+        return;
+    };
+    let read = bytes.get(..bytes.len().saturating_sub(left));
+    if is_same && read == Some(again.as_slice()) {
+        case.put_number(*handle.offset());
+        case.put(" ");
+        case.put_number(u64::from(handle.size()));
+        case.put(", ");
+        case.put_count(left, " left");
+    } else {
+        case.put_bytes(again.as_slice());
+    }
 }
 
 /// Reads the lone handle at the start of bytes, and encodes it again.
-fn handle(alloc: Global, bytes: &[u8]) -> Result<String> {
+fn handle(bytes: &[u8], case: &mut Case<'_>) {
     let mut rest = bytes;
-    let handle = BlockHandle::decode_from(&mut rest)?;
-    let (again, is_same) = bytes_of_handle(alloc, &handle)?;
-    let read = bytes.get(..bytes.len().saturating_sub(rest.len()));
-    if is_same && read == Some(again.as_slice()) {
-        seen_handle(alloc, &handle, rest.len())
-    } else {
-        hex_of(alloc, again.as_slice())
+    match BlockHandle::decode_from(&mut rest) {
+        Ok(handle) => put_handle(&handle, bytes, rest.len(), case),
+        Err(error) => case.refuse(error),
     }
 }
 
 /// Reads the frame that a handle names in a file of the payload: OFFSET SIZE.
-fn file<H: BlockHash>(alloc: Global, room: &Room, words: &[&str]) -> Result<String> {
-    let [offset, size] = words else {
-        return Err(Fault::Word);
-    };
-    let handle = BlockHandle::new(BlockOffset(number_of(offset)?), size_of(size)?);
-    let mut file = Cursor::new(room.payload.as_slice());
-    let block = Block::from_file::<H, Cursor<&[u8]>>(alloc, &mut file, handle)?;
-    seen(alloc, &block, 0)
-}
-
-/// Reads the payload, with checksums that fit where the words say so, in a way.
-fn read<H: BlockHash>(alloc: Global, room: &Room, words: &[&str], way: Way) -> Result<String> {
-    let which = match words {
-        [] => "none",
-        ["mended", which] => *which,
-        _ => return Err(Fault::Word),
-    };
-    let bytes = mended::<H>(alloc, room, which)?;
-    read_by::<H>(alloc, bytes.as_slice(), way)
+fn file<H: BlockHash>(room: &Room, case: &mut Case<'_>) {
+    let handle = BlockHandle::new(BlockOffset(case.number()), case.size());
+    if case.ends() {
+        let mut file = Cursor::new(room.payload.as_slice());
+        let block = Block::from_file::<H, Cursor<&[u8]>>(case.alloc, &mut file, handle);
+        put_block(block, 0, case);
+    }
 }
 
 /// Reads bytes in a way.
-fn read_by<H: BlockHash>(alloc: Global, bytes: &[u8], way: Way) -> Result<String> {
+fn read_by<H: BlockHash>(bytes: &[u8], way: Way, case: &mut Case<'_>) {
     match way {
-        Way::Stream => stream::<H>(alloc, bytes),
-        Way::Whole => whole::<H>(alloc, bytes),
-        Way::Header => header::<H>(alloc, bytes),
-        Way::Handle => handle(alloc, bytes),
+        Way::Stream => stream::<H>(bytes, case),
+        Way::Whole => whole::<H>(bytes, case),
+        Way::Header => header::<H>(bytes, case),
+        Way::Handle => handle(bytes, case),
+    }
+}
+
+/// Reads the payload, with checksums that fit where the words say so, in a way.
+fn read<H: BlockHash>(room: &Room, way: Way, case: &mut Case<'_>) {
+    let which = match case.rest() {
+        [] => "none",
+        ["mended", which] => *which,
+        _ => "",
+    };
+    match room.payload.to_vec(case.alloc) {
+        Ok(mut bytes) => {
+            mend::<H>(bytes.as_mut_slice(), which, case);
+            if case.is_sound() {
+                read_by::<H>(bytes.as_slice(), way, case);
+            }
+        }
+        Err(_) => case.refuse(Error::Memory),
     }
 }
 
 /// Performs a command, if it is one on frames, headers or lone handles.
-pub fn perform<H: BlockHash>(
-    alloc: Global,
-    room: &mut Room,
-    name: &str,
-    words: &[&str],
-) -> Option<Result<String>> {
-    Some(match name {
-        "stream" => read::<H>(alloc, room, words, Way::Stream),
-        "whole" => read::<H>(alloc, room, words, Way::Whole),
-        "header" => read::<H>(alloc, room, words, Way::Header),
-        "handle" => read::<H>(alloc, room, words, Way::Handle),
-        "frame" => frame::<H>(alloc, room, words),
-        "file" => file::<H>(alloc, room, words),
-        _ => return None,
-    })
+pub fn perform<H: BlockHash>(room: &mut Room, name: &str, case: &mut Case<'_>) -> bool {
+    match name {
+        "stream" => read::<H>(room, Way::Stream, case),
+        "whole" => read::<H>(room, Way::Whole, case),
+        "header" => read::<H>(room, Way::Header, case),
+        "handle" => read::<H>(room, Way::Handle, case),
+        "frame" => frame::<H>(room, case),
+        "file" => file::<H>(room, case),
+        _ => return false,
+    }
+    true
 }

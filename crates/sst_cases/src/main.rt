@@ -4,13 +4,13 @@
 //! `.xxh3`. Prints a line for each case that does not hold, with the file and the number of the
 //! line, and then how many cases of the file hold; the status is 1 if one does not.
 //!
-//! After the word `refused` it runs cases while allocations are refused: one that tells of that is
+//! After the word `refused` it runs cases while allocations are refused: one that says so is
 //! performed again, and then has to give its result; how many were is printed too.
 //!
-//! The commands on frames, filters, runs and merges, on a store, and on the program `sst` stand
-//! here, in modules by what they are about; those on values and blocks are of `sst_block_cases`.
-//! Each module has a function `perform`, which returns the result of a command, or `None` where the
-//! command is none of the module's.
+//! The commands on frames, filters, runs and merges, on a store, and on the program `sst` are here,
+//! in modules by what they are about; those on values and blocks are of `sst_block_cases`. Each
+//! module has a function `perform`, which returns whether a command is one of the module's, and
+//! then has performed it.
 #![tactic(auto)]
 
 mod each;
@@ -21,6 +21,7 @@ mod program;
 mod runs;
 
 use sst_base::BlockHash;
+use sst_block_cases::case::Case;
 use sst_block_cases::fault::Result;
 use sst_block_cases::room::Room;
 use sst_block_cases::runner::{Commands, run_files};
@@ -33,22 +34,11 @@ use std::rt::Files;
 struct AllCommands;
 
 impl<R: LockFiles + AllocGlobal> Commands<R> for AllCommands {
-    fn perform<H: BlockHash>(
-        rt: &R,
-        room: &mut Room,
-        name: &str,
-        words: &[&str],
-    ) -> Result<Option<String>> {
-        if let Some(answer) = sst_block_cases::perform::<H>(rt.alloc(), room, name, words)? {
-            return Ok(Some(answer));
-        }
-        if let Some(answer) = each::perform::<H>(rt.alloc(), room, name, words)? {
-            return Ok(Some(answer));
-        }
-        if let Some(answer) = program::perform(rt, room, name, words)? {
-            return Ok(Some(answer));
-        }
-        merges::perform::<H>(rt.alloc(), room, name, words)
+    fn perform<H: BlockHash>(rt: &R, room: &mut Room, name: &str, case: &mut Case<'_>) -> bool {
+        sst_block_cases::perform::<H>(room, name, case)
+            || each::perform::<H>(room, name, case)
+            || program::perform(rt, room, name, case)
+            || merges::perform::<H>(room, name, case)
     }
 }
 

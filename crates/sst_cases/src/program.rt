@@ -1,17 +1,18 @@
 //! Runs of the program `sst`, by its library, on files of the folder in which the cases are run.
 
-use sst_base::InternalValue;
+use sst_base::{Error, InternalValue};
+use sst_block_cases::case::Case;
 use sst_block_cases::digest::hash_of;
 use sst_block_cases::fault::{Fault, Result};
 use sst_block_cases::room::Room;
-use sst_block_cases::words::{bytes_of, number_of, small_of, word_of};
+use sst_block_cases::words::{bytes_of, number_of, small_of};
 use sst_program::lines::{entry_in, entry_line};
 use sst_program::{LockFiles, sst_main};
 use std::alloc::Global;
 use std::fs;
 use std::rt::Files;
 
-/// How many bytes of what is printed an answer shows. Of more it has the number and a digest.
+/// How many bytes of what is printed a result shows. Of more it has the number and a digest.
 const SHOWN: usize = 1000;
 
 /// Appends a part of a text in which `_` is a space and `~` an end of line.
@@ -26,13 +27,13 @@ fn push_plain(bytes: &mut Vec<u8>, part: &str) -> Result<()> {
     Ok(())
 }
 
-/// Appends bytes that stand as a code.
+/// Appends bytes that are encoded as a code.
 fn push_code(alloc: Global, bytes: &mut Vec<u8>, code: &str) -> Result<()> {
     let code = bytes_of(alloc, code)?;
     Ok(bytes.extend_from_slice(code.as_slice())?)
 }
 
-/// Appends the part of a text after a `<`: bytes that stand as a code, `>`, and the rest.
+/// Appends the part of a text after a `<`: bytes that are a code, `>`, and the rest.
 fn push_coded(alloc: Global, bytes: &mut Vec<u8>, part: &str) -> Result<()> {
     let Some((code, plain)) = part.split_once('>') else {
         return Err(Fault::Word);
@@ -50,9 +51,9 @@ fn push_part(alloc: Global, bytes: &mut Vec<u8>, number: usize, part: &str) -> R
     }
 }
 
-/// Returns the text of a word: `_` is a space and `~` an end of line, and between `<` and `>` stand
+/// Returns the text of a word: `_` is a space and `~` an end of line, and between `<` and `>` are
 /// bytes. The word `-` is no text.
-fn text_in(alloc: Global, word: &str) -> Result<Vec<u8>> {
+fn text_of(alloc: Global, word: &str) -> Result<Vec<u8>> {
     let mut bytes = Vec::new(alloc);
     if word == "-" {
         return Ok(bytes);
@@ -63,35 +64,43 @@ fn text_in(alloc: Global, word: &str) -> Result<Vec<u8>> {
     Ok(bytes)
 }
 
-/// Appends a byte as a code.
-fn push_hex(alloc: Global, word: &mut String, byte: u8) -> Result<()> {
-    let code = format!(in alloc; "<{byte:02x}>")?;
-    Ok(word.push_str(code.as_str())?)
+/// Returns the text of a word, or notes why it has none.
+fn text_in(word: &str, case: &mut Case<'_>) -> Vec<u8> {
+    match text_of(case.alloc, word) {
+        Ok(text) => text,
+        Err(fault) => {
+            case.note(fault);
+            Vec::new(case.alloc)
+        }
+    }
 }
 
-/// Appends a byte to the word of a text.
-fn push_byte(alloc: Global, word: &mut String, byte: u8) -> Result<()> {
-    let letter = match byte {
-        b' ' => '_',
-        b'\n' => '~',
-        b'_' | b'~' | b'<' | b'>' => return push_hex(alloc, word, byte),
-        b'!'..=b'}' => char::from(byte),
-        _ => return push_hex(alloc, word, byte),
-    };
-    Ok(word.push(letter)?)
+/// Adds a byte to the word of a text.
+fn put_byte(byte: u8, case: &mut Case<'_>) {
+    match byte {
+        b' ' => case.put("_"),
+        b'\n' => case.put("~"),
+        b'!'..=b'}' if byte != b'_' && byte != b'<' && byte != b'>' => {
+            case.put_display(&char::from(byte));
+        }
+        _ => {
+            case.put("<");
+            case.put_bytes(&[byte]);
+            case.put(">");
+        }
+    }
 }
 
-/// Returns the word of a text, or its length and its digest if it is long.
-fn word_of_text(alloc: Global, text: &[u8]) -> Result<String> {
+/// Adds the word of a text, or its length and its digest if it is long.
+fn put_text(text: &[u8], case: &mut Case<'_>) {
     if text.len() > SHOWN {
-        let (len, digest) = (text.len(), hash_of(text));
-        return Ok(format!(in alloc; "{len} bytes {digest:016x}")?);
+        case.put_count(text.len(), " bytes ");
+        case.put_hex(hash_of(text));
+        return;
     }
-    let mut word = String::new(alloc);
     for byte in text {
-        push_byte(alloc, &mut word, *byte)?;
+        put_byte(*byte, case);
     }
-    Ok(word)
 }
 
 /// Adds a part of a text as a word.
@@ -119,60 +128,51 @@ fn words_in(alloc: Global, text: &[u8]) -> Result<Vec<&[u8]>> {
     Ok(words)
 }
 
-/// Returns what a run prints and the line of its fault, with a status if one is to be told.
-fn told_all(alloc: Global, status: Option<u8>, output: &[u8], faults: &[u8]) -> Result<String> {
-    let printed = word_of_text(alloc, output)?;
-    let line = word_of_text(alloc, faults)?;
-    match status {
-        Some(status) => Ok(format!(in alloc; "status {status} {printed} {line}")?),
-        None => Ok(format!(in alloc; "{printed} {line}")?),
-    }
-}
-
-/// Returns what a run prints, the line of its fault, and its status where it does not say whether
+/// Adds what a run prints, the line of its fault, and its status where it does not say whether
 /// there is one.
-fn told(alloc: Global, status: u8, output: &[u8], faults: &[u8]) -> Result<String> {
+fn put_run(status: u8, output: &[u8], faults: &[u8], case: &mut Case<'_>) {
     if status != u8::from(!faults.is_empty()) {
-        told_all(alloc, Some(status), output, faults)
+        case.put("status ");
+        case.put_number(u64::from(status));
+        case.put(" ");
     } else if faults.is_empty() {
-        word_of_text(alloc, output)
+        put_text(output, case);
+        return;
     } else if output.is_empty() {
-        word_of_text(alloc, faults)
-    } else {
-        told_all(alloc, None, output, faults)
+        put_text(faults, case);
+        return;
     }
+    put_text(output, case);
+    case.put(" ");
+    put_text(faults, case);
 }
 
-/// Runs the program.
-fn run<R: LockFiles>(rt: &R, alloc: Global, text: &[u8], mut input: &[u8]) -> Result<String> {
-    let words = words_in(alloc, text)?;
+/// Runs the program by its words.
+fn run_words<R: LockFiles>(rt: &R, words: &[&[u8]], mut input: &[u8], case: &mut Case<'_>) {
+    let alloc = case.alloc;
     let (mut output, mut faults) = (Vec::new(alloc), Vec::new(alloc));
-    let status = sst_main(
-        rt,
-        alloc,
-        words.as_slice(),
-        &mut input,
-        &mut output,
-        &mut faults,
-    );
-    told(alloc, status, output.as_slice(), faults.as_slice())
+    let status = sst_main(rt, alloc, words, &mut input, &mut output, &mut faults);
+    put_run(status, output.as_slice(), faults.as_slice(), case);
 }
 
-/// Runs the program by a word.
-fn run_word<R: LockFiles>(rt: &R, alloc: Global, word: &str, input: &[u8]) -> Result<String> {
-    let text = text_in(alloc, word)?;
-    run(rt, alloc, text.as_slice(), input)
+/// Runs the program by a text.
+fn run<R: LockFiles>(rt: &R, text: &[u8], input: &[u8], case: &mut Case<'_>) {
+    match words_in(case.alloc, text) {
+        Ok(words) => run_words(rt, words.as_slice(), input, case),
+        Err(fault) => case.note(fault),
+    }
 }
 
 /// Runs the program: WORDS, on the input that was set, or WORDS INPUT.
-fn sst<R: LockFiles>(rt: &R, alloc: Global, room: &Room, words: &[&str]) -> Result<String> {
-    match words {
-        [text] => run_word(rt, alloc, text, room.input.as_slice()),
-        [text, input] => {
-            let input = text_in(alloc, input)?;
-            run_word(rt, alloc, text, input.as_slice())
-        }
-        _ => Err(Fault::Word),
+fn sst<R: LockFiles>(rt: &R, room: &Room, case: &mut Case<'_>) {
+    let text = text_in(case.word(), case);
+    if case.has_ended() {
+        run(rt, text.as_slice(), room.input.as_slice(), case);
+        return;
+    }
+    let input = text_in(case.word(), case);
+    if case.ends() {
+        run(rt, text.as_slice(), input.as_slice(), case);
     }
 }
 
@@ -185,71 +185,67 @@ fn push_line(lines: &mut Vec<u8>, word: &str) -> Result<()> {
 }
 
 /// Appends the line of an entry of the list.
-fn push_entry(alloc: Global, lines: &mut Vec<u8>, entry: &InternalValue) -> Result<()> {
-    let word = word_of(alloc, entry)?;
-    push_line(lines, word.as_str())
+fn push_entry(lines: &mut Vec<u8>, entry: &InternalValue, case: &mut Case<'_>) {
+    let start = case.mark();
+    case.put_entry(entry);
+    if let Err(fault) = push_line(lines, case.text_from(start)) {
+        case.note(fault);
+    }
+    case.cut(start);
 }
 
 /// Makes the lines of the list the input.
-fn lines(alloc: Global, room: &mut Room) -> Result<String> {
-    let mut lines = Vec::new(alloc);
+fn lines(room: &mut Room, case: &mut Case<'_>) {
+    let mut lines = Vec::new(case.alloc);
     for entry in &room.entries {
-        push_entry(alloc, &mut lines, entry)?;
+        push_entry(&mut lines, entry, case);
     }
+    put_text(lines.as_slice(), case);
     room.input = lines;
-    word_of_text(alloc, room.input.as_slice())
 }
 
-/// Returns the entry of a line, if it has one.
-fn entry_of(alloc: Global, word: &str) -> Result<Option<InternalValue>> {
-    let text = text_in(alloc, word)?;
-    Ok(entry_in(alloc, text.as_slice())?)
-}
-
-/// Returns the line of an entry, as a word.
-fn line_of(alloc: Global, entry: &InternalValue) -> Result<String> {
-    let line = entry_line(alloc, entry)?;
-    word_of_text(alloc, line.as_bytes())
-}
-
-/// Returns the line of an entry, as a word, or `none`.
-fn line_of_found(alloc: Global, found: Option<&InternalValue>) -> Result<String> {
-    match found {
-        Some(entry) => line_of(alloc, entry),
-        None => Ok(String::from_str(alloc, "none")?),
+/// Adds the line of an entry, as a word.
+fn put_line(entry: &InternalValue, case: &mut Case<'_>) {
+    match entry_line(case.alloc, entry) {
+        Ok(line) => put_text(line.as_bytes(), case),
+        Err(_) => case.refuse(Error::Memory),
     }
 }
 
 /// Reads an entry line, and prints the line of the entry: LINE.
-fn line(alloc: Global, words: &[&str]) -> Result<String> {
-    let [word] = words else {
-        return Err(Fault::Word);
-    };
-    let found = entry_of(alloc, word)?;
-    line_of_found(alloc, found.as_ref())
+fn line(case: &mut Case<'_>) {
+    let text = text_in(case.word(), case);
+    if !case.ends() {
+        return;
+    }
+    match entry_in(case.alloc, text.as_slice()) {
+        Ok(Some(entry)) => put_line(&entry, case),
+        Ok(None) => case.put("none"),
+        Err(_) => case.refuse(Error::Memory),
+    }
 }
 
-/// Returns how many bytes the payload has.
-fn size_of_payload(alloc: Global, room: &Room) -> Result<String> {
-    Ok(format!(in alloc; "{} bytes", room.payload.len())?)
+/// Adds how many bytes the payload has.
+fn put_size(room: &Room, case: &mut Case<'_>) {
+    case.put_count(room.payload.len(), " bytes");
 }
 
 /// Makes a file of the payload: NAME.
-fn save<R: Files>(rt: &R, alloc: Global, room: &Room, words: &[&str]) -> Result<String> {
-    let [name] = words else {
-        return Err(Fault::Word);
-    };
-    fs::write(rt, *name, room.payload.as_slice())?;
-    size_of_payload(alloc, room)
+fn save<R: Files>(rt: &R, room: &Room, case: &mut Case<'_>) {
+    let name = case.word();
+    if case.ends() && fs::write(rt, name, room.payload.as_slice()).is_err() {
+        case.note(Fault::Io);
+    }
+    put_size(room, case);
 }
 
 /// Makes the bytes of a file the payload: NAME.
-fn load<R: Files + AllocGlobal>(rt: &R, room: &mut Room, words: &[&str]) -> Result<String> {
-    let [name] = words else {
-        return Err(Fault::Word);
-    };
-    room.payload = fs::read(rt, *name)?;
-    size_of_payload(rt.alloc(), room)
+fn load<R: Files + AllocGlobal>(rt: &R, room: &mut Room, case: &mut Case<'_>) {
+    match fs::read(rt, case.word()) {
+        Ok(bytes) => room.payload = bytes,
+        Err(_) => case.note(Fault::Io),
+    }
+    put_size(room, case);
 }
 
 /// Sets a byte: OFFSET BYTE.
@@ -268,48 +264,27 @@ fn set_byte(bytes: &mut [u8], pair: &[&str]) -> Result<()> {
 }
 
 /// Sets bytes of the payload: OFFSET BYTE ..
-fn set(alloc: Global, room: &mut Room, words: &[&str]) -> Result<String> {
-    for pair in words.chunks(2) {
-        set_byte(room.payload.as_mut_slice(), pair)?;
+fn set(room: &mut Room, case: &mut Case<'_>) {
+    for pair in case.rest().chunks(2) {
+        if let Err(fault) = set_byte(room.payload.as_mut_slice(), pair) {
+            case.note(fault);
+        }
     }
-    size_of_payload(alloc, room)
-}
-
-/// Returns a part of bytes: START END.
-fn part_of(alloc: Global, bytes: &[u8], words: &[&str]) -> Result<Vec<u8>> {
-    let [start, end] = words else {
-        return Err(Fault::Word);
-    };
-    let (Ok(start), Ok(end)) = (number_of(start), number_of(end)) else {
-        return Err(Fault::Word);
-    };
-    match bytes.get(start as usize..end as usize) {
-        Some(part) => Ok(part.to_vec(alloc)?),
-        None => Err(Fault::Word),
-    }
+    put_size(room, case);
 }
 
 /// Cuts the payload: START END.
-fn cut(alloc: Global, room: &mut Room, words: &[&str]) -> Result<String> {
-    room.payload = part_of(alloc, room.payload.as_slice(), words)?;
-    size_of_payload(alloc, room)
-}
-
-/// Performs a command on files and bytes, if it is one.
-fn perform_small<R: Files + AllocGlobal>(
-    rt: &R,
-    room: &mut Room,
-    name: &str,
-    words: &[&str],
-) -> Result<Option<String>> {
-    let answer = match name {
-        "load" => load(rt, room, words),
-        "save" => save(rt, rt.alloc(), room, words),
-        "set" => set(rt.alloc(), room, words),
-        "cut" => cut(rt.alloc(), room, words),
-        _ => return Ok(None),
-    };
-    Ok(Some(answer?))
+fn cut(room: &mut Room, case: &mut Case<'_>) {
+    let (start, end) = (case.number() as usize, case.number() as usize);
+    if !case.ends() || start > end || end > room.payload.len() {
+        case.note(Fault::Word);
+        return;
+    }
+    match room.payload[start..end].to_vec(case.alloc) {
+        Ok(part) => room.payload = part,
+        Err(_) => case.refuse(Error::Memory),
+    }
+    put_size(room, case);
 }
 
 /// Performs a command, if it is one on the program or on files.
@@ -317,13 +292,17 @@ pub fn perform<R: LockFiles + AllocGlobal>(
     rt: &R,
     room: &mut Room,
     name: &str,
-    words: &[&str],
-) -> Result<Option<String>> {
-    let answer = match name {
-        "sst" => sst(rt, rt.alloc(), room, words),
-        "lines" => lines(rt.alloc(), room),
-        "line" => line(rt.alloc(), words),
-        _ => return perform_small(rt, room, name, words),
-    };
-    Ok(Some(answer?))
+    case: &mut Case<'_>,
+) -> bool {
+    match name {
+        "sst" => sst(rt, room, case),
+        "lines" => lines(room, case),
+        "line" => line(case),
+        "load" => load(rt, room, case),
+        "save" => save(rt, room, case),
+        "set" => set(room, case),
+        "cut" => cut(room, case),
+        _ => return false,
+    }
+    true
 }

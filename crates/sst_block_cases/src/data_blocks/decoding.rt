@@ -3,13 +3,12 @@ ghost use Rattle.std.specs.Prelude.{◌≡◌};
 ghost use Rattle.sst_block_core.specs.Window.{whole};
 
 use super::Opened;
-use super::walks::taken;
-use crate::fault::{Fault, Result};
-use crate::words::{Row, bytes_of, number_of, repeated, truth};
+use super::walks::put_taken;
+use crate::case::Case;
+use crate::fault::Fault;
 use sst_base::{BlockHash, InternalValue, compare_bytes};
 use sst_block_core::laws::data_block_is_read;
 use sst_block_core::{DataBlock, DataBlockParsedItem, Decoder};
-use std::alloc::Global;
 
 /// A decoder of the entries of a data block.
 type Entries<'a> = Decoder<'a, InternalValue, DataBlockParsedItem>;
@@ -36,17 +35,16 @@ impl Predicate {
 }
 
 /// The predicate of a word.
-fn predicate_of(alloc: Global, word: &str) -> Result<Predicate> {
-    if word == "all" {
-        return Ok(Predicate::All);
-    }
-    let Some((name, bound)) = word.split_once(':') else {
-        return Err(Fault::Word);
-    };
-    match name {
-        "below" => Ok(Predicate::Below(bytes_of(alloc, bound)?)),
-        "above" => Ok(Predicate::Above(number_of(bound)?)),
-        _ => Err(Fault::Word),
+fn predicate_of(word: &str, case: &mut Case<'_>) -> Predicate {
+    match word.split_once(':') {
+        Some(("below", bound)) => Predicate::Below(case.bytes_in(bound)),
+        Some(("above", bound)) => Predicate::Above(case.number_in(bound)),
+        _ => {
+            if word != "all" {
+                case.note(Fault::Word);
+            }
+            Predicate::All
+        }
     }
 }
 
@@ -64,56 +62,60 @@ fn decoder_of<H: BlockHash>(block: &DataBlock<H>) -> Entries<'_>
 }
 
 /// Moves the front, or the back, to the head that a predicate picks.
-fn seek(alloc: Global, decoder: &mut Entries<'_>, form: &str, predicate: &str) -> Result<bool>
+fn seek(decoder: &mut Entries<'_>, form: &str, predicate: &Predicate, case: &mut Case<'_>)
     ensures payload { decoder.new.payload ≡ decoder.old.payload }
     ensures interval { decoder.new.interval ≡ decoder.old.interval }
     ensures list { decoder.new.window.list ≡ decoder.old.window.list }
 {
-    let predicate = predicate_of(alloc, predicate)?;
     let holds = |key: &[u8], seqno: u64| predicate.holds(key, seqno);
-    match form {
-        "last" => Ok(decoder.seek(&holds, false)),
-        "first" => Ok(decoder.seek(&holds, true)),
-        "back_last" => Ok(decoder.seek_upper(&holds, false)),
-        "back_first" => Ok(decoder.seek_upper(&holds, true)),
-        _ => Err(Fault::Word),
-    }
+    let found = match form {
+        "last" => decoder.seek(&holds, false),
+        "first" => decoder.seek(&holds, true),
+        "back_last" => decoder.seek_upper(&holds, false),
+        "back_first" => decoder.seek_upper(&holds, true),
+        _ => {
+            case.note(Fault::Word);
+            return;
+        }
+    };
+    case.put_truth(found);
 }
 
 /// Makes a call of a decoder: a move to a head, or a seek by a predicate.
 fn move_to<H: BlockHash>(
-    alloc: Global,
     block: &DataBlock<H>,
     decoder: &mut Entries<'_>,
     word: &str,
-) -> Result<String>
+    case: &mut Case<'_>,
+)
     requires interval { decoder.old.interval ≡ block.now.interval }
     requires list { decoder.old.window.list ≡ block.now.items }
     ensures payload { decoder.new.payload ≡ decoder.old.payload }
     ensures interval { decoder.new.interval ≡ block.now.interval }
     ensures list { decoder.new.window.list ≡ block.now.items }
 {
-    let Some((name, rest)) = word.split_once(':') else {
-        return Err(Fault::Word);
-    };
+    let (name, rest) = case.pair_in(word, ':');
     if name != "move" {
-        return truth(alloc, seek(alloc, decoder, name, rest)?);
+        let predicate = predicate_of(rest, case);
+        seek(decoder, name, &predicate, case);
+        return;
     }
-    let head = number_of(rest)? as usize;
+    let head = case.number_in(rest) as usize;
     if head >= block.binary_index_len() as usize {
-        return Err(Fault::Word);
+        case.note(Fault::Word);
+        return;
     }
     decoder.set_lo_offset(block.head_offset(head));
-    truth(alloc, true)
+    case.put_truth(true);
 }
 
 /// Makes a call of a decoder.
 fn call<H: BlockHash>(
-    alloc: Global,
     block: &DataBlock<H>,
     decoder: &mut Entries<'_>,
     word: &str,
-) -> Result<String>
+    case: &mut Case<'_>,
+)
     requires payload { decoder.old.payload ≡ block.now.payload }
     requires interval { decoder.old.interval ≡ block.now.interval }
     requires list { decoder.old.window.list ≡ block.now.items }
@@ -122,27 +124,27 @@ fn call<H: BlockHash>(
     ensures list { decoder.new.window.list ≡ block.now.items }
 {
     match word {
-        "next" => taken(alloc, block.as_slice(), decoder.next()),
-        "back" => taken(alloc, block.as_slice(), decoder.next_back()),
-        "left" => Ok(format!(in alloc; "{}", decoder.count_left())?),
-        _ => move_to(alloc, block, decoder, word),
+        "next" => put_taken(block.as_slice(), decoder.next(), case),
+        "back" => put_taken(block.as_slice(), decoder.next_back(), case),
+        "left" => case.put_count(decoder.count_left(), ""),
+        _ => move_to(block, decoder, word, case),
     }
 }
 
 /// Makes calls of a decoder of a block.
-fn calls<H: BlockHash>(alloc: Global, block: &DataBlock<H>, words: &[&str]) -> Result<String> {
+fn calls<H: BlockHash>(block: &DataBlock<H>, words: &[&str], case: &mut Case<'_>) {
     let mut decoder = decoder_of(block);
-    let mut row = Row::new(alloc);
     for word in words {
-        row.add(call(alloc, block, &mut decoder, word));
+        case.space();
+        call(block, &mut decoder, word, case);
     }
-    row.text()
 }
 
 /// Calls of a decoder: `next`, `back`, `left`, `move:` and a head, and a form of a seek, `:` and a
 /// predicate.
-pub fn decode<H: BlockHash>(alloc: Global, opened: &Opened<H>, words: &[&str]) -> Result<String> {
-    let words = repeated(alloc, words)?;
-    let block = opened.bare()?;
-    calls(alloc, block, words.as_slice())
+pub fn decode<H: BlockHash>(opened: &Opened<H>, case: &mut Case<'_>) {
+    let words = case.repeated();
+    if let Some(block) = opened.bare(case) {
+        calls(block, words.as_slice(), case);
+    }
 }

@@ -2,10 +2,10 @@
 ghost use Rattle.std.specs.Prelude.{◌≡◌, ◌≤◌, []};
 
 use super::{Opened, data_block};
-use crate::digest::hash_of;
+use crate::case::Case;
 use crate::fault::{Fault, Result};
 use crate::lists::views_of;
-use crate::words::{bytes_of, hex_of, number_of, small_of};
+use crate::room::Room;
 use sst_base::table::block::{Block, BlockType};
 use sst_base::{BlockHash, HashRatio, InternalValue, Slice};
 use sst_block_core::table::block::encoder::Encoder;
@@ -14,28 +14,23 @@ use sst_block_core::{DataBlock, EntryView};
 use std::alloc::Global;
 
 /// The numbers of a block.
-fn numbers_of<H: BlockHash>(alloc: Global, block: &DataBlock<H>) -> Result<String> {
+fn put_numbers<H: BlockHash>(block: &DataBlock<H>, case: &mut Case<'_>) {
+    case.put_count(block.as_slice().len(), " bytes, ");
+    case.put_count(block.binary_index_len() as usize, " heads, ");
     let (buckets, conflicts) = match block.get_hash_index_reader() {
         Some(reader) => (reader.bucket_count(), reader.conflict_count()),
         None => (0, 0),
     };
-    let (bytes, heads) = (block.as_slice().len(), block.binary_index_len());
-    Ok(format!(in alloc; "{bytes} bytes, {heads} heads, {buckets} buckets, {conflicts} conflicts")?)
+    case.put_count(buckets as usize, " buckets, ");
+    case.put_count(conflicts as usize, " conflicts");
 }
 
-/// The numbers of the block of a payload.
-fn numbers<H: BlockHash>(alloc: Global, payload: &[u8]) -> Result<String> {
-    let block = data_block::<H>(alloc, payload, false)?;
-    numbers_of(alloc, &block)
-}
-
-/// Returns the block of entries in order, at the interval of a word, without buckets.
+/// Returns the block of entries in order, at an interval, without buckets.
 pub fn encoded<H: BlockHash>(
     alloc: Global,
     entries: &[InternalValue],
-    interval: &str,
+    interval: u8,
 ) -> Result<DataBlock<H>> {
-    let interval = small_of(interval)?;
     if entries.is_empty() || interval == 0 || !DataBlock::<H>::is_ordered(entries) {
         return Err(Fault::Word);
     }
@@ -75,108 +70,110 @@ fn views_in<'a, H: BlockHash>(
     Ok(views)
 }
 
-/// Encodes views of entries.
-fn by_views_of<H: BlockHash>(
-    alloc: Global,
-    entries: &[InternalValue],
+/// Whether views of entries are encoded as the payload.
+fn are_payload<H: BlockHash>(
+    views: Result<Vec<EntryView<'_>>>,
     interval: u8,
     ratio: HashRatio,
-) -> Result<Vec<u8>>
-    requires interval { 1 ≤ interval }
-    requires den { 1 ≤ ratio.den }
-{
-    let views = views_of(alloc, entries)?;
-    by_views::<H>(alloc, views.as_slice(), interval, ratio)
-}
-
-/// Encodes views of the entries of a block.
-fn by_views_in<H: BlockHash>(
-    alloc: Global,
-    block: &DataBlock<H>,
-    interval: u8,
-    ratio: HashRatio,
-) -> Result<Vec<u8>>
-    requires interval { 1 ≤ interval }
-    requires den { 1 ≤ ratio.den }
-{
-    let views = views_in(alloc, block)?;
-    by_views::<H>(alloc, views.as_slice(), interval, ratio)
-}
-
-/// Encodes views of the entries of their block.
-fn again<H: BlockHash>(
-    alloc: Global,
-    entries: &[InternalValue],
-    interval: u8,
-    ratio: HashRatio,
-) -> Result<Vec<u8>>
-    requires interval { 1 ≤ interval }
-    requires den { 1 ≤ ratio.den }
-{
-    let block = encoded::<H>(alloc, entries, "5")?;
-    by_views_in(alloc, &block, interval, ratio)
-}
-
-/// How many bytes are made of views of entries, and of views of the entries of their block, where
-/// these are not the bytes of a payload.
-fn others<H: BlockHash>(
-    alloc: Global,
-    entries: &[InternalValue],
     payload: &[u8],
-    interval: u8,
-    ratio: HashRatio,
-) -> Result<Option<(usize, usize)>>
+    case: &mut Case<'_>,
+) -> bool
     requires interval { 1 ≤ interval }
     requires den { 1 ≤ ratio.den }
 {
-    let views = by_views_of::<H>(alloc, entries, interval, ratio)?;
-    let again = again::<H>(alloc, entries, interval, ratio)?;
-    if views.as_slice() == payload && again.as_slice() == payload {
-        return Ok(None);
+    let Some(views) = case.made(views) else {
+        return false;
+    };
+    match by_views::<H>(case.alloc, views.as_slice(), interval, ratio) {
+        Ok(bytes) => bytes.as_slice() == payload,
+        Err(fault) => {
+            case.note(fault);
+            false
+        }
     }
-    Ok(Some((views.len(), again.len())))
+}
+
+/// Whether views of the entries of the block of entries are encoded as the payload.
+fn is_payload_again<H: BlockHash>(
+    entries: &[InternalValue],
+    interval: u8,
+    ratio: HashRatio,
+    payload: &[u8],
+    case: &mut Case<'_>,
+) -> bool
+    requires interval { 1 ≤ interval }
+    requires den { 1 ≤ ratio.den }
+{
+    match encoded::<H>(case.alloc, entries, 5) {
+        Ok(block) => {
+            are_payload::<H>(views_in(case.alloc, &block), interval, ratio, payload, case)
+        }
+        Err(fault) => {
+            case.note(fault);
+            false
+        }
+    }
+}
+
+/// The numbers of the block of a payload, or that views of the entries are encoded otherwise.
+fn put_payload<H: BlockHash>(payload: &[u8], is_same: bool, case: &mut Case<'_>) {
+    if !is_same {
+        case.put("other bytes by views");
+        return;
+    }
+    match data_block::<H>(case.alloc, payload, false) {
+        Ok(block) => put_numbers(&block, case),
+        Err(fault) => case.note(fault),
+    }
 }
 
 /// Encodes entries as the payload: themselves, views of them, and views of the entries of a block.
 fn encode_list<H: BlockHash>(
-    alloc: Global,
     entries: &[InternalValue],
     payload: &mut Vec<u8>,
     interval: u8,
     ratio: HashRatio,
-) -> Result<String>
+    case: &mut Case<'_>,
+)
     requires interval { 1 ≤ interval }
     requires den { 1 ≤ ratio.den }
 {
     if entries.is_empty() || !DataBlock::<H>::is_ordered(entries) {
-        return Err(Fault::Word);
+        case.note(Fault::Word);
+        return;
     }
-    *payload = DataBlock::<H>::encode_into_vec(alloc, entries, interval, ratio)?;
-    match others::<H>(alloc, entries, payload.as_slice(), interval, ratio)? {
-        Some((views, again)) => Ok(format!(in alloc; "{views} bytes, {again} again, by views")?),
-        None => numbers::<H>(alloc, payload.as_slice()),
+    match DataBlock::<H>::encode_into_vec(case.alloc, entries, interval, ratio) {
+        Ok(bytes) => *payload = bytes,
+        Err(error) => {
+            case.refuse(error);
+            return;
+        }
     }
+    let views = views_of(case.alloc, entries);
+    let is_same = are_payload::<H>(views, interval, ratio, payload.as_slice(), case)
+        && is_payload_again::<H>(entries, interval, ratio, payload.as_slice(), case);
+    put_payload::<H>(payload.as_slice(), is_same, case);
 }
 
 /// Encodes the list, by its entries and by views: INTERVAL NUM DEN.
-pub fn encode<H: BlockHash>(
-    alloc: Global,
-    entries: &[InternalValue],
-    payload: &mut Vec<u8>,
-    words: &[&str],
-) -> Result<String> {
-    let [interval, num, den] = words else {
-        return Err(Fault::Word);
-    };
-    let interval = small_of(interval)?;
-    let ratio = HashRatio {
-        num: u32::from(small_of(num)?),
-        den: u32::from(small_of(den)?),
-    };
-    if interval == 0 || ratio.den == 0 {
-        return Err(Fault::Word);
+pub fn encode<H: BlockHash>(room: &mut Room, case: &mut Case<'_>) {
+    let (interval, num, den) = (case.small(), case.small(), case.small());
+    if interval == 0 || den == 0 {
+        case.note(Fault::Word);
     }
-    encode_list::<H>(alloc, entries, payload, interval, ratio)
+    if case.ends() && interval > 0 && den > 0 {
+        let ratio = HashRatio {
+            num: u32::from(num),
+            den: u32::from(den),
+        };
+        encode_list::<H>(
+            room.entries.as_slice(),
+            &mut room.payload,
+            interval,
+            ratio,
+            case,
+        );
+    }
 }
 
 /// Appends what an encoder writes of two entries, in order or not, without buckets.
@@ -197,47 +194,55 @@ fn write_two<H: BlockHash>(
 }
 
 /// Writes a list of two entries, in order or not, without buckets: INTERVAL.
-pub fn write<H: BlockHash>(
-    alloc: Global,
-    entries: &[InternalValue],
-    payload: &mut Vec<u8>,
-    words: &[&str],
-) -> Result<String> {
-    let [interval] = words else {
-        return Err(Fault::Word);
+pub fn write<H: BlockHash>(room: &mut Room, case: &mut Case<'_>) {
+    let interval = case.small();
+    let [first, second] = room.entries.as_slice() else {
+        case.note(Fault::Word);
+        return;
     };
-    let interval = small_of(interval)?;
-    let [first, second] = entries else {
-        return Err(Fault::Word);
-    };
-    if interval == 0 {
-        return Err(Fault::Word);
+    if !case.ends() || interval == 0 {
+        case.note(Fault::Word);
+        return;
     }
-    let mut bytes = Vec::new(alloc);
-    write_two::<H>(&mut bytes, first, second, interval)?;
-    *payload = bytes;
-    Ok(format!(in alloc; "{} bytes", payload.len())?)
+    let mut bytes = Vec::new(case.alloc);
+    match write_two::<H>(&mut bytes, first, second, interval) {
+        Ok(()) => {
+            case.put_count(bytes.len(), " bytes");
+            room.payload = bytes;
+        }
+        Err(error) => case.refuse(error),
+    }
 }
 
-/// The text of a bucket's byte and of what it says.
-fn text_of_bucket(alloc: Global, byte: u8, said: Lookup) -> Result<String> {
+/// What the bucket of a key says.
+fn put_lookup(said: Lookup, case: &mut Case<'_>) {
     match said {
-        Lookup::Anywhere => Ok(format!(in alloc; "{byte} anywhere")?),
-        Lookup::Nowhere => Ok(format!(in alloc; "{byte} nowhere")?),
-        Lookup::Interval(at) => Ok(format!(in alloc; "{byte} interval {at}")?),
+        Lookup::Anywhere => case.put(" anywhere"),
+        Lookup::Nowhere => case.put(" nowhere"),
+        Lookup::Interval(at) => {
+            case.put(" interval ");
+            case.put_number(u64::from(at));
+        }
+    }
+}
+
+/// The byte of the bucket of a key, and what it says.
+fn put_bucket<H: BlockHash>(block: &DataBlock<H>, key: &[u8], case: &mut Case<'_>) {
+    match block.get_hash_index_reader() {
+        Some(reader) => {
+            case.put_number(u64::from(reader.get(key)));
+            put_lookup(reader.lookup(key), case);
+        }
+        None => case.note(Fault::Word),
     }
 }
 
 /// The byte of the bucket of a key, and what it says: KEY.
-pub fn bucket<H: BlockHash>(alloc: Global, opened: &Opened<H>, words: &[&str]) -> Result<String> {
-    let [key] = words else {
-        return Err(Fault::Word);
-    };
-    let block = opened.bare()?;
-    let Some(reader) = block.get_hash_index_reader() else {
-        return Err(Fault::Word);
-    };
-    let key = bytes_of(alloc, key)?;
-    let byte = reader.get(key.as_slice());
-    text_of_bucket(alloc, byte, reader.lookup(key.as_slice()))
+pub fn bucket<H: BlockHash>(opened: &Opened<H>, case: &mut Case<'_>) {
+    let key = case.bytes();
+    if case.ends()
+        && let Some(block) = opened.bare(case)
+    {
+        put_bucket(block, key.as_slice(), case);
+    }
 }

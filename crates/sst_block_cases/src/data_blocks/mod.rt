@@ -7,6 +7,7 @@ mod reads;
 mod tables;
 mod walks;
 
+use crate::case::Case;
 use crate::fault::Result;
 use crate::room::{Room, block_with};
 use sst_base::BlockHash;
@@ -24,26 +25,31 @@ struct Opened<H: BlockHash> {
     tabled: Result<DataBlock<H>>,
 }
 
+/// Returns what was made by reference, or notes why it was not.
+fn made<'a, T>(made: &'a Result<T>, case: &mut Case<'_>) -> Option<&'a T> {
+    match made {
+        Ok(made) => Some(made),
+        Err(fault) => {
+            case.note(*fault);
+            None
+        }
+    }
+}
+
 impl<H: BlockHash> Opened<H> {
     /// The block without the table of its heads.
-    fn bare(&self) -> Result<&DataBlock<H>> {
-        match &self.bare {
-            Ok(block) => Ok(block),
-            Err(fault) => Err(*fault),
-        }
+    fn bare(&self, case: &mut Case<'_>) -> Option<&DataBlock<H>> {
+        made(&self.bare, case)
     }
 
     /// The block with the table of its heads.
-    fn tabled(&self) -> Result<&DataBlock<H>> {
-        match &self.tabled {
-            Ok(block) => Ok(block),
-            Err(fault) => Err(*fault),
-        }
+    fn tabled(&self, case: &mut Case<'_>) -> Option<&DataBlock<H>> {
+        made(&self.tabled, case)
     }
 
     /// The block without the table of its heads and with it.
-    fn both(&self) -> Result<Blocks<'_, H>> {
-        Ok((self.bare()?, self.tabled()?))
+    fn both(&self, case: &mut Case<'_>) -> Option<Blocks<'_, H>> {
+        Some((self.bare(case)?, self.tabled(case)?))
     }
 }
 
@@ -64,23 +70,30 @@ enum Reading {
     Walk,
 }
 
+/// The commands that read the block of the payload, by their names.
+const READINGS: [(&str, Reading); 12] = [
+    ("bucket", Reading::Bucket),
+    ("counts", Reading::Counts),
+    ("decode", Reading::Decode),
+    ("entries", Reading::Entries),
+    ("misses", Reading::Misses),
+    ("offsets", Reading::Offsets),
+    ("queries", Reading::Queries),
+    ("read", Reading::Read),
+    ("steps", Reading::Steps),
+    ("table", Reading::Table),
+    ("take", Reading::Take),
+    ("walk", Reading::Walk),
+];
+
 /// The command of a name, if it reads the block of the payload.
 fn reading_of(name: &str) -> Option<Reading> {
-    match name {
-        "bucket" => Some(Reading::Bucket),
-        "counts" => Some(Reading::Counts),
-        "decode" => Some(Reading::Decode),
-        "entries" => Some(Reading::Entries),
-        "misses" => Some(Reading::Misses),
-        "offsets" => Some(Reading::Offsets),
-        "queries" => Some(Reading::Queries),
-        "read" => Some(Reading::Read),
-        "steps" => Some(Reading::Steps),
-        "table" => Some(Reading::Table),
-        "take" => Some(Reading::Take),
-        "walk" => Some(Reading::Walk),
-        _ => None,
+    for (other, reading) in &READINGS {
+        if *other == name {
+            return Some(*reading);
+        }
     }
+    None
 }
 
 /// Returns a payload as a data block, with the table of its heads or without.
@@ -97,67 +110,60 @@ pub fn data_block<H: BlockHash>(
     }
 }
 
-/// Performs a command on the block of the payload. A command reads the words that need no block
-/// first, so that it refuses these whatever the payload is.
-fn answer<H: BlockHash>(
-    alloc: Global,
+/// Performs a command on the block of the payload. A command reads its words first, so that it
+/// refuses these whatever the payload is.
+fn read_opened<H: BlockHash>(
     room: &mut Room,
     opened: &Opened<H>,
     reading: Reading,
-    words: &[&str],
-) -> Result<String> {
+    case: &mut Case<'_>,
+) {
     match reading {
-        Reading::Bucket => encoding::bucket(alloc, opened, words),
-        Reading::Counts => tables::counts(alloc, opened, words),
-        Reading::Decode => decoding::decode(alloc, opened, words),
-        Reading::Entries => reads::entries(alloc, room.payload.as_slice(), opened),
-        Reading::Misses => reads::misses(alloc, opened, words),
-        Reading::Offsets => tables::offsets(alloc, opened),
-        Reading::Queries => reads::queries(alloc, opened),
-        Reading::Read => reads::read(alloc, opened, words),
-        Reading::Steps => walks::steps(alloc, opened, words),
-        Reading::Table => tables::table(alloc, opened),
-        Reading::Take => reads::take(alloc, &mut room.entries, opened),
-        Reading::Walk => walks::walks(alloc, opened, words),
+        Reading::Bucket => encoding::bucket(opened, case),
+        Reading::Counts => tables::counts(opened, case),
+        Reading::Decode => decoding::decode(opened, case),
+        Reading::Entries => reads::entries(room.payload.as_slice(), opened, case),
+        Reading::Misses => reads::misses(opened, case),
+        Reading::Offsets => tables::offsets(opened, case),
+        Reading::Queries => reads::queries(opened, case),
+        Reading::Read => reads::read(opened, case),
+        Reading::Steps => walks::steps(opened, case),
+        Reading::Table => tables::table(opened, case),
+        Reading::Take => reads::take(&mut room.entries, opened, case),
+        Reading::Walk => walks::walks(opened, case),
     }
 }
 
 /// Opens the block of the payload, and performs a command on it.
-fn read<H: BlockHash>(
-    alloc: Global,
-    room: &mut Room,
-    reading: Reading,
-    words: &[&str],
-) -> Result<String> {
+fn read<H: BlockHash>(room: &mut Room, reading: Reading, case: &mut Case<'_>) {
     let opened = Opened::<H> {
-        bare: data_block(alloc, room.payload.as_slice(), false),
-        tabled: data_block(alloc, room.payload.as_slice(), true),
+        bare: data_block(case.alloc, room.payload.as_slice(), false),
+        tabled: data_block(case.alloc, room.payload.as_slice(), true),
     };
-    answer(alloc, room, &opened, reading, words)
+    read_opened(room, &opened, reading, case);
+}
+
+/// Performs a command, if it is one that opens no block.
+fn perform_plain<H: BlockHash>(room: &mut Room, name: &str, case: &mut Case<'_>) -> bool {
+    match name {
+        "compare" => pairs::compare::<H>(room, case),
+        "encode" => encoding::encode::<H>(room, case),
+        "front" => tables::front(case),
+        "parts" => pairs::parts(case),
+        "place" => reads::place::<H>(room, case),
+        "write" => encoding::write::<H>(room, case),
+        _ => return false,
+    }
+    true
 }
 
 /// Performs a command, if it is one on data blocks.
-pub fn perform<H: BlockHash>(
-    alloc: Global,
-    room: &mut Room,
-    name: &str,
-    words: &[&str],
-) -> Result<Option<String>> {
-    let answer = match name {
-        "compare" => pairs::compare::<H>(alloc, room, words),
-        "encode" => {
-            encoding::encode::<H>(alloc, room.entries.as_slice(), &mut room.payload, words)
+pub fn perform<H: BlockHash>(room: &mut Room, name: &str, case: &mut Case<'_>) -> bool {
+    match reading_of(name) {
+        Some(reading) => {
+            read::<H>(room, reading, case);
+            true
         }
-        "front" => tables::front(alloc, words),
-        "parts" => pairs::parts(alloc, words),
-        "place" => reads::place::<H>(alloc, room, words),
-        "write" => {
-            encoding::write::<H>(alloc, room.entries.as_slice(), &mut room.payload, words)
-        }
-        _ => match reading_of(name) {
-            Some(reading) => read::<H>(alloc, room, reading, words),
-            None => return Ok(None),
-        },
-    };
-    Ok(Some(answer?))
+        None => perform_plain::<H>(room, name, case),
+    }
 }

@@ -1,13 +1,12 @@
 //! Commands that compare entries of two blocks, and that show the parts of an entry.
 
 use super::encoding::encoded;
+use crate::case::Case;
 use crate::digest::Digest;
-use crate::fault::{Fault, Result};
 use crate::room::Room;
-use crate::words::{bytes_of, number_of, parts_of, type_of};
-use sst_base::{BlockHash, InternalValue, ValueType};
+use crate::words::parts_of;
+use sst_base::{BlockHash, Error, InternalValue};
 use sst_block_core::{DataBlock, EntryView};
-use std::alloc::Global;
 use std::cmp::Ordering;
 
 /// How many pairs compared as less, as equal and as greater, and the digest of all.
@@ -39,140 +38,119 @@ impl Signs {
         }
     }
 
-    /// Returns the counts, and the digest.
-    fn text(&self, alloc: Global) -> Result<String> {
-        let (less, equal, greater) = (self.less, self.equal, self.greater);
-        let state = self.digest.state;
-        Ok(format!(in alloc; "{less} less, {equal} equal, {greater} greater, {state:016x}")?)
+    /// Adds the counts, and the digest, to a result.
+    fn put(&self, case: &mut Case<'_>) {
+        case.put_count(self.less, " less, ");
+        case.put_count(self.equal, " equal, ");
+        case.put_count(self.greater, " greater, ");
+        case.put_hex(self.digest.state);
     }
 
     /// Adds how two user keys compare, two entries, and copies of these.
-    fn add(
-        &mut self,
-        alloc: Global,
-        keys: Ordering,
-        entries: Ordering,
-        copies: Ordering,
-    ) -> Result<()> {
+    fn add(&mut self, keys: Ordering, entries: Ordering, copies: Ordering, case: &mut Case<'_>) {
         match entries {
             Ordering::Less => self.less = self.less.saturating_add(1),
             Ordering::Equal => self.equal = self.equal.saturating_add(1),
             Ordering::Greater => self.greater = self.greater.saturating_add(1),
         }
-        let (first, second, third) = (sign(keys), sign(entries), sign(copies));
-        self.digest
-            .add(format!(in alloc; "{first}{second}{third}")?.as_str());
-        Ok(())
+        let start = case.mark();
+        case.put(sign(keys));
+        case.put(sign(entries));
+        case.put(sign(copies));
+        self.digest.add(case.text_from(start));
+        case.cut(start);
     }
 }
 
-/// Compares two entries that borrow their blocks, and copies of them.
-fn compare_entries(
-    alloc: Global,
-    signs: &mut Signs,
-    left: &EntryView<'_>,
-    right: &EntryView<'_>,
-) -> Result<()> {
-    let copies = left.clone()?.compare(&right.clone()?);
-    signs.add(
-        alloc,
-        left.compare_user_key(right),
-        left.compare(right),
-        copies,
-    )
+/// How copies of two entries compare.
+fn compare_copies(left: &EntryView<'_>, right: &EntryView<'_>, case: &mut Case<'_>) -> Ordering {
+    let copies: (Result<_, _>, Result<_, _>) = (left.clone(), right.clone());
+    match &copies {
+        (Ok(left), Ok(right)) => left.compare(right),
+        _ => {
+            case.refuse(Error::Memory);
+            Ordering::Equal
+        }
+    }
 }
 
-/// Compares an entry with each of a block.
+/// Compares an entry with each of a block, and copies of them.
 fn compare_with<H: BlockHash>(
-    alloc: Global,
     signs: &mut Signs,
     left: &EntryView<'_>,
     block: &DataBlock<H>,
-) -> Result<()> {
+    case: &mut Case<'_>,
+) {
     for right in block.entries() {
-        compare_entries(alloc, signs, left, &right)?;
+        let copies = compare_copies(left, &right, case);
+        signs.add(
+            left.compare_user_key(&right),
+            left.compare(&right),
+            copies,
+            case,
+        );
     }
-    Ok(())
 }
 
 /// Compares the entries of a block with those of another, each with each.
-fn compare_all<H: BlockHash>(
-    alloc: Global,
-    left: &DataBlock<H>,
-    right: &DataBlock<H>,
-) -> Result<String> {
+fn compare_all<H: BlockHash>(left: &DataBlock<H>, right: &DataBlock<H>, case: &mut Case<'_>) {
     let mut signs = Signs::new();
     for entry in left.entries() {
-        compare_with(alloc, &mut signs, &entry, right)?;
+        compare_with(&mut signs, &entry, right, case);
     }
-    signs.text(alloc)
+    signs.put(case);
 }
 
 /// Compares the entries of a block with those of a list's block at an interval, each with each.
 fn compare_to<H: BlockHash>(
-    alloc: Global,
     left: &DataBlock<H>,
     entries: &[InternalValue],
-    interval: &str,
-) -> Result<String> {
-    let right = encoded::<H>(alloc, entries, interval)?;
-    compare_all(alloc, left, &right)
+    interval: u8,
+    case: &mut Case<'_>,
+) {
+    match encoded::<H>(case.alloc, entries, interval) {
+        Ok(right) => compare_all(left, &right, case),
+        Err(fault) => case.note(fault),
+    }
 }
 
 /// Compares the entries of the list's block at an interval with those of its block at another, each
 /// with each: INTERVAL INTERVAL.
-pub fn compare<H: BlockHash>(alloc: Global, room: &Room, words: &[&str]) -> Result<String> {
-    let [first, second] = words else {
-        return Err(Fault::Word);
-    };
-    let left = encoded::<H>(alloc, room.entries.as_slice(), first)?;
-    compare_to(alloc, &left, room.entries.as_slice(), second)
-}
-
-/// The text of the parts of an entry.
-fn text_of_parts(alloc: Global, parts: &EntryView<'_>) -> Result<String> {
-    let (key, value) = (parts.key_len(), parts.value().len());
-    let (value_type, seqno) = (parts.value_type(), parts.seqno());
-    let dead = parts.is_tombstone();
-    Ok(format!(in alloc;
-        "{value_type:?} {seqno}, key of {key}, value of {value}, tombstone {dead}"
-    )?)
-}
-
-/// The text of the parts of an entry, if there is one.
-fn text_of_found(alloc: Global, parts: Option<&EntryView<'_>>) -> Result<String> {
-    match parts {
-        Some(parts) => text_of_parts(alloc, parts),
-        None => Ok(String::from_str(alloc, "none")?),
+pub fn compare<H: BlockHash>(room: &Room, case: &mut Case<'_>) {
+    let (first, second) = (case.small(), case.small());
+    if !case.ends() {
+        return;
+    }
+    match encoded::<H>(case.alloc, room.entries.as_slice(), first) {
+        Ok(left) => compare_to(&left, room.entries.as_slice(), second, case),
+        Err(fault) => case.note(fault),
     }
 }
 
-/// The parts of an entry of a key and the word of a value.
-fn parts_with(
-    alloc: Global,
-    key: &[u8],
-    value: &str,
-    seqno: u64,
-    value_type: ValueType,
-) -> Result<String> {
-    match bytes_of(alloc, value) {
-        Ok(value) => {
-            let parts = EntryView::of_parts(key, value.as_slice(), seqno, value_type);
-            text_of_found(alloc, parts.as_ref())
-        }
-        Err(fault) => Err(fault),
-    }
+/// The parts of an entry.
+fn put_parts(parts: &EntryView<'_>, case: &mut Case<'_>) {
+    case.put_debug(&parts.value_type());
+    case.put(" ");
+    case.put_number(parts.seqno());
+    case.put(", key of ");
+    case.put_count(parts.key_len(), ", value of ");
+    case.put_count(parts.value().len(), ", tombstone ");
+    case.put_truth(parts.is_tombstone());
 }
 
 /// The parts of an entry, whose key may be too long: ENTRY.
-pub fn parts(alloc: Global, words: &[&str]) -> Result<String> {
-    let [word] = words else {
-        return Err(Fault::Word);
+pub fn parts(case: &mut Case<'_>) {
+    let word = case.word();
+    let Some(parts) = case.made(parts_of(word)) else {
+        return;
     };
-    let (letter, seqno, key, value) = parts_of(word)?;
-    let (seqno, value_type) = (number_of(seqno)?, type_of(letter)?);
-    match bytes_of(alloc, key) {
-        Ok(key) => parts_with(alloc, key.as_slice(), value, seqno, value_type),
-        Err(fault) => Err(fault),
+    let (value_type, seqno) = (case.type_in(parts.0), case.number_in(parts.1));
+    let (key, value) = (case.bytes_in(parts.2), case.bytes_in(parts.3));
+    if !case.ends() {
+        return;
+    }
+    match EntryView::of_parts(key.as_slice(), value.as_slice(), seqno, value_type) {
+        Some(parts) => put_parts(&parts, case),
+        None => case.put("none"),
     }
 }

@@ -2,151 +2,122 @@
 ghost use Rattle.sst_block_core.specs.ParsedEntry.{IsParsedEntry};
 
 use super::{Blocks, Opened};
+use crate::case::Case;
 use crate::digest::{Counted, Digest};
 use crate::fault::{Fault, Result};
 use crate::room::Room;
-use crate::words::{alike, bytes_of, number_of, size_of, word_of, word_of_found, word_of_read};
-use sst_base::{BlockHash, InternalValue, Slice, Steps};
+use sst_base::{BlockHash, Error, InternalValue, Slice, Steps};
 use sst_block_core::{DataBlock, DataBlockParsedItem, DataBlockRef, EntryView, ParsedItem};
 use std::alloc::Global;
 
-/// A point read of bytes that are lent.
-fn find<H: BlockHash>(
-    alloc: Global,
+/// A point read of borrowed bytes.
+fn put_found<H: BlockHash>(
     page: &DataBlockRef<'_, H>,
     key: &[u8],
     seqno: u64,
-) -> Result<String> {
+    case: &mut Case<'_>,
+) {
     match page.find(key, seqno, &mut Steps::new()) {
-        Some(item) => word_of_view(alloc, &page.entry(item)),
-        None => word_of_found(alloc, None),
+        Some(item) => put_view(&page.entry(item), case),
+        None => case.put("none"),
     }
 }
 
-/// A point read of a block.
-fn found<H: BlockHash>(
-    alloc: Global,
-    block: &DataBlock<H>,
-    key: &[u8],
-    seqno: u64,
-) -> Result<String> {
-    word_of_read(
-        alloc,
-        block.point_read(alloc, key, seqno, &mut Steps::new()),
-    )
-}
-
-/// A point read of a block, and of its bytes as they are lent.
-fn read_from<H: BlockHash>(
-    alloc: Global,
-    block: &DataBlock<H>,
-    key: &[u8],
-    seqno: u64,
-) -> Result<String> {
-    let owned = found(alloc, block, key, seqno);
-    let lent = find(alloc, &block.by_ref(), key, seqno);
-    alike(alloc, owned, "by its bytes", lent)
+/// A point read of a block, and of its bytes as they are borrowed.
+fn put_read<H: BlockHash>(block: &DataBlock<H>, key: &[u8], seqno: u64, case: &mut Case<'_>) {
+    let mut ways = case.ways();
+    case.put_read(block.point_read(case.alloc, key, seqno, &mut Steps::new()));
+    case.other(&mut ways, "by its bytes");
+    put_found(&block.by_ref(), key, seqno, case);
+    case.agree(&mut ways);
 }
 
 /// A point read of a block without the table of its heads and with it.
-fn read_from_both<H: BlockHash>(
-    alloc: Global,
-    blocks: Blocks<'_, H>,
-    key: &[u8],
-    seqno: u64,
-) -> Result<String> {
-    let bare = read_from(alloc, blocks.0, key, seqno);
-    let tabled = read_from(alloc, blocks.1, key, seqno);
-    alike(alloc, bare, "by the table", tabled)
+fn put_both<H: BlockHash>(blocks: Blocks<'_, H>, key: &[u8], seqno: u64, case: &mut Case<'_>) {
+    let mut ways = case.ways();
+    put_read(blocks.0, key, seqno, case);
+    case.other(&mut ways, "by the table");
+    put_read(blocks.1, key, seqno, case);
+    case.agree(&mut ways);
 }
 
 /// A point read, without the table of the heads and with it: KEY SEQNO.
-pub fn read<H: BlockHash>(alloc: Global, opened: &Opened<H>, words: &[&str]) -> Result<String> {
-    let [key, seqno] = words else {
-        return Err(Fault::Word);
-    };
-    let (seqno, key) = (number_of(seqno)?, bytes_of(alloc, key)?);
-    read_from_both(alloc, opened.both()?, key.as_slice(), seqno)
+pub fn read<H: BlockHash>(opened: &Opened<H>, case: &mut Case<'_>) {
+    let (key, seqno) = (case.bytes(), case.number());
+    if case.ends()
+        && let Some(blocks) = opened.both(case)
+    {
+        put_both(blocks, key.as_slice(), seqno, case);
+    }
 }
 
 /// Whether a read of a key finds none.
-fn is_missed<H: BlockHash>(alloc: Global, block: &DataBlock<H>, key: &[u8]) -> Result<bool> {
-    let found = block.point_read(alloc, key, u64::MAX, &mut Steps::new())?;
-    Ok(found.is_none())
+fn is_missed<H: BlockHash>(block: &DataBlock<H>, key: &[u8], case: &mut Case<'_>) -> bool {
+    let found = block.point_read(case.alloc, key, u64::MAX, &mut Steps::new());
+    match case.got(found) {
+        Some(found) => found.is_none(),
+        None => false,
+    }
 }
 
 /// How many of so many reads of a key find none.
-fn count_misses<H: BlockHash>(
-    alloc: Global,
-    block: &DataBlock<H>,
-    key: &[u8],
-    times: u32,
-) -> Result<u32> {
+fn put_misses<H: BlockHash>(block: &DataBlock<H>, key: &[u8], times: u32, case: &mut Case<'_>) {
     let mut count = 0u32;
     for _ in 0..times {
-        if is_missed(alloc, block, key)? {
+        if is_missed(block, key, case) {
             count = count.saturating_add(1);
         }
     }
-    Ok(count)
-}
-
-/// How many of so many reads of a key find none, as a text.
-fn misses_of<H: BlockHash>(
-    alloc: Global,
-    block: &DataBlock<H>,
-    key: &[u8],
-    times: u32,
-) -> Result<String> {
-    let count = count_misses(alloc, block, key, times)?;
-    Ok(format!(in alloc; "{count} of {times}")?)
+    case.put_number(u64::from(count));
+    case.put(" of ");
+    case.put_number(u64::from(times));
 }
 
 /// Reads of a key: how many find none: KEY TIMES. (Such a read asks for no memory.)
-pub fn misses<H: BlockHash>(alloc: Global, opened: &Opened<H>, words: &[&str]) -> Result<String> {
-    let [key, times] = words else {
-        return Err(Fault::Word);
-    };
-    let (times, key) = (size_of(times)?, bytes_of(alloc, key)?);
-    misses_of(alloc, opened.bare()?, key.as_slice(), times)
+pub fn misses<H: BlockHash>(opened: &Opened<H>, case: &mut Case<'_>) {
+    let (key, times) = (case.bytes(), case.size());
+    if case.ends()
+        && let Some(block) = opened.bare(case)
+    {
+        put_misses(block, key.as_slice(), times, case);
+    }
 }
 
-/// The text of an offset and a length.
-fn text_of_range(alloc: Global, range: (usize, usize)) -> Result<String> {
-    let (offset, length) = range;
-    Ok(format!(in alloc; "{offset} {length}")?)
-}
-
-/// Where the value of an entry that a read finds is in bytes that are lent.
-fn place_in<H: BlockHash>(
-    alloc: Global,
+/// Where the value of an entry that a read finds is in borrowed bytes.
+fn put_place<H: BlockHash>(
     page: &DataBlockRef<'_, H>,
     key: &[u8],
     seqno: u64,
-) -> Result<String> {
+    case: &mut Case<'_>,
+) {
     match page.find(key, seqno, &mut Steps::new()) {
-        Some(item) => text_of_range(alloc, item.value_range()),
-        None => word_of_found(alloc, None),
+        Some(item) => {
+            let (offset, length) = item.value_range();
+            case.put_count(offset, " ");
+            case.put_count(length, "");
+        }
+        None => case.put("none"),
     }
 }
 
 /// Where the value of an entry that a read finds is in the payload: KEY SEQNO.
-pub fn place<H: BlockHash>(alloc: Global, room: &Room, words: &[&str]) -> Result<String> {
-    let [key, seqno] = words else {
-        return Err(Fault::Word);
-    };
-    let (seqno, key) = (number_of(seqno)?, bytes_of(alloc, key)?);
-    let page = DataBlockRef::<H>::check(alloc, room.payload.as_slice())?;
-    place_in(alloc, &page, key.as_slice(), seqno)
+pub fn place<H: BlockHash>(room: &Room, case: &mut Case<'_>) {
+    let (key, seqno) = (case.bytes(), case.number());
+    if !case.ends() {
+        return;
+    }
+    match DataBlockRef::<H>::check(case.alloc, room.payload.as_slice()) {
+        Ok(page) => put_place(&page, key.as_slice(), seqno, case),
+        Err(error) => case.refuse(error),
+    }
 }
 
-/// What some reads found. The first fault of one is kept.
+/// How many reads there are, how many of them found an entry, and the digest of all.
 #[derive(Clone, Copy)]
 struct Reads {
     count: usize,
     found: usize,
     digest: Digest,
-    fault: Option<Fault>,
 }
 
 impl Reads {
@@ -156,30 +127,7 @@ impl Reads {
             count: 0,
             found: 0,
             digest: Digest::new(),
-            fault: None,
         }
-    }
-
-    /// Notes why there is no read.
-    fn note(&mut self, fault: Fault) {
-        self.fault = self.fault.or(Some(fault));
-    }
-
-    /// Adds what a read returns, or notes why it returns nothing.
-    fn add(&mut self, answer: Result<String>) {
-        match answer {
-            Ok(answer) => self.push(answer.as_str()),
-            Err(fault) => self.note(fault),
-        }
-    }
-
-    /// Returns how many reads there are and how many found an entry, and the digest of all.
-    fn text(&self, alloc: Global) -> Result<String> {
-        if let Some(fault) = self.fault {
-            return Err(fault);
-        }
-        let (count, found, state) = (self.count, self.found, self.digest.state);
-        Ok(format!(in alloc; "{count} reads, {found} found, {state:016x}")?)
     }
 
     /// Adds what a read found.
@@ -189,6 +137,19 @@ impl Reads {
             self.found = self.found.saturating_add(1);
         }
         self.digest.add(answer);
+    }
+
+    /// Adds the text of a case from a mark on as what a read found, and takes it away there.
+    fn take(&mut self, case: &mut Case<'_>, mark: usize) {
+        self.push(case.text_from(mark));
+        case.cut(mark);
+    }
+
+    /// Adds how many reads there are and how many found an entry, and the digest of all.
+    fn put(&self, case: &mut Case<'_>) {
+        case.put_count(self.count, " reads, ");
+        case.put_count(self.found, " found, ");
+        case.put_hex(self.digest.state);
     }
 }
 
@@ -203,29 +164,31 @@ fn extended(alloc: Global, prefix: &[u8], last: Option<u8>) -> Result<Vec<u8>> {
 
 /// Reads a key, which is a prefix and maybe another byte, from a block without the table of its
 /// heads and with it.
-fn read_extended<H: BlockHash>(
-    alloc: Global,
+fn put_extended<H: BlockHash>(
     blocks: Blocks<'_, H>,
     prefix: &[u8],
     last: Option<u8>,
     seqno: u64,
-) -> Result<String> {
-    let key = extended(alloc, prefix, last)?;
-    read_from_both(alloc, blocks, key.as_slice(), seqno)
+    case: &mut Case<'_>,
+) {
+    match extended(case.alloc, prefix, last) {
+        Ok(key) => put_both(blocks, key.as_slice(), seqno, case),
+        Err(fault) => case.note(fault),
+    }
 }
 
 /// Reads the key of an entry at its sequence number and at the next, an extension of it, its
 /// prefix, the keys around it, and its end.
 fn add_reads<H: BlockHash>(
-    alloc: Global,
     reads: &mut Reads,
     blocks: Blocks<'_, H>,
     entry: &InternalValue,
+    case: &mut Case<'_>,
 ) {
     let (key, seqno) = (entry.key().user_key().as_slice(), entry.key().seqno());
     let next = seqno.wrapping_add(1);
     let (Some((last, prefix)), Some((_, end))) = (key.split_last(), key.split_first()) else {
-        reads.note(Fault::Word);
+        case.note(Fault::Word);
         return;
     };
     let queries = [
@@ -238,150 +201,161 @@ fn add_reads<H: BlockHash>(
         (end, None, seqno),
     ];
     for (prefix, last, seqno) in &queries {
-        reads.add(read_extended(alloc, blocks, prefix, *last, *seqno));
+        let start = case.mark();
+        put_extended(blocks, prefix, *last, *seqno, case);
+        reads.take(case, start);
     }
 }
 
 /// Reads around an entry that borrows its block.
 fn add_around<H: BlockHash>(
-    alloc: Global,
     reads: &mut Reads,
     blocks: Blocks<'_, H>,
     entry: &EntryView<'_>,
+    case: &mut Case<'_>,
 ) {
-    match entry.to_entry(alloc) {
-        Ok(entry) => add_reads(alloc, reads, blocks, &entry),
-        Err(error) => reads.note(error.into()),
+    match entry.to_entry(case.alloc) {
+        Ok(entry) => add_reads(reads, blocks, &entry, case),
+        Err(_) => case.refuse(Error::Memory),
     }
 }
 
 /// Point reads around each entry, and their digest.
-pub fn queries<H: BlockHash>(alloc: Global, opened: &Opened<H>) -> Result<String> {
-    let blocks = opened.both()?;
+pub fn queries<H: BlockHash>(opened: &Opened<H>, case: &mut Case<'_>) {
+    let Some(blocks) = opened.both(case) else {
+        return;
+    };
     let mut reads = Reads::new();
     for entry in blocks.0.entries() {
-        add_around(alloc, &mut reads, blocks, &entry);
+        add_around(&mut reads, blocks, &entry, case);
     }
-    reads.text(alloc)
-}
-
-/// Appends an entry that borrows its block to a list.
-fn push_entry(
-    alloc: Global,
-    entries: &mut Vec<InternalValue>,
-    entry: &EntryView<'_>,
-) -> Result<()> {
-    entries.push(entry.to_entry(alloc)?)?;
-    Ok(())
+    reads.put(case);
 }
 
 /// Appends the entries of a block to a list.
 fn push_entries<H: BlockHash>(
-    alloc: Global,
     entries: &mut Vec<InternalValue>,
     block: &DataBlock<H>,
-) -> Result<()> {
-    for entry in block.entries() {
-        push_entry(alloc, entries, &entry)?;
+    case: &mut Case<'_>,
+) {
+    for view in block.entries() {
+        match view.to_entry(case.alloc) {
+            Ok(entry) => case.push(entries, entry),
+            Err(_) => case.refuse(Error::Memory),
+        }
     }
-    Ok(())
 }
 
 /// Takes the entries of the payload as the list.
 pub fn take<H: BlockHash>(
-    alloc: Global,
     entries: &mut Vec<InternalValue>,
     opened: &Opened<H>,
-) -> Result<String> {
-    let block = opened.bare()?;
-    *entries = Vec::new(alloc);
-    push_entries(alloc, entries, block)?;
-    Ok(format!(in alloc; "{} entries", entries.len())?)
-}
-
-/// The number and the digest of the words of entries, from the last to the first.
-fn digest_back(alloc: Global, words: &[String]) -> Result<String> {
-    let mut all = Counted::new();
-    for word in words.iter().rev() {
-        all.push(word.as_str());
+    case: &mut Case<'_>,
+) {
+    if let Some(block) = opened.bare(case) {
+        entries.clear();
+        push_entries(entries, block, case);
+        case.put_count(entries.len(), " entries");
     }
-    all.text(alloc, "entries")
 }
 
 /// The word of an item of a payload.
-fn word_of_item(alloc: Global, payload: &Slice, item: &DataBlockParsedItem) -> Result<String>
+fn put_item(payload: &Slice, item: &DataBlockParsedItem, case: &mut Case<'_>)
     requires { IsParsedEntry payload.now item.now }
 {
-    word_of(alloc, &item.materialize(alloc, payload)?)
+    case.put_made(item.materialize(case.alloc, payload));
 }
 
 /// The entries of a block by its items.
-fn by_items<H: BlockHash>(alloc: Global, block: &DataBlock<H>) -> Result<String> {
+fn put_items<H: BlockHash>(block: &DataBlock<H>, case: &mut Case<'_>) {
     let mut all = Counted::new();
+    let start = case.mark();
     for item in block.iter() {
-        all.add(word_of_item(alloc, block.as_slice(), &item));
+        put_item(block.as_slice(), &item, case);
+        all.take(case, start);
     }
-    all.text(alloc, "entries")
+    all.put("entries", case);
 }
 
 /// The word of an entry that borrows its block.
-pub fn word_of_view(alloc: Global, view: &EntryView<'_>) -> Result<String> {
-    word_of(alloc, &view.to_entry(alloc)?)
+pub fn put_view(view: &EntryView<'_>, case: &mut Case<'_>) {
+    case.put_made(view.to_entry(case.alloc));
 }
 
 /// The entries of a block, each of which borrows it, from the front.
-fn by_views<H: BlockHash>(alloc: Global, page: &DataBlockRef<'_, H>) -> Result<String> {
+fn put_views<H: BlockHash>(page: &DataBlockRef<'_, H>, case: &mut Case<'_>) {
     let mut all = Counted::new();
+    let start = case.mark();
     for view in page.entries() {
-        all.add(word_of_view(alloc, &view));
+        put_view(&view, case);
+        all.take(case, start);
     }
-    all.text(alloc, "entries")
-}
-
-/// Appends the word of an entry that borrows its block.
-fn push_view(alloc: Global, words: &mut Vec<String>, view: &EntryView<'_>) -> Result<()> {
-    Ok(words.push(word_of_view(alloc, view)?)?)
+    all.put("entries", case);
 }
 
 /// The words of the entries of a block, each of which borrows it, from the back.
-fn words_back<H: BlockHash>(alloc: Global, page: &DataBlockRef<'_, H>) -> Result<Vec<String>> {
-    let mut words = Vec::new(alloc);
+fn words_back<H: BlockHash>(page: &DataBlockRef<'_, H>, case: &mut Case<'_>) -> Vec<String> {
+    let mut words = Vec::new(case.alloc);
+    let start = case.mark();
     for view in page.entries().rev() {
-        push_view(alloc, &mut words, &view)?;
+        put_view(&view, case);
+        match String::from_str(case.alloc, case.text_from(start)) {
+            Ok(word) => case.push(&mut words, word),
+            Err(_) => case.refuse(Error::Memory),
+        }
+        case.cut(start);
     }
-    Ok(words)
+    words
 }
 
-/// The entries of a block, each of which borrows it, from the back.
-fn by_views_back<H: BlockHash>(alloc: Global, page: &DataBlockRef<'_, H>) -> Result<String> {
-    let words = words_back(alloc, page)?;
-    digest_back(alloc, words.as_slice())
+/// The entries of a block, each of which borrows it, taken from the back.
+fn put_views_back<H: BlockHash>(page: &DataBlockRef<'_, H>, case: &mut Case<'_>) {
+    let mut all = Counted::new();
+    let words = words_back(page, case);
+    for word in words.iter().rev() {
+        all.push(word.as_str());
+    }
+    all.put("entries", case);
 }
 
-/// The entries of the payload, which is lent, with a table of their heads that is lent too.
-fn by_tabled_views<H: BlockHash>(alloc: Global, payload: &[u8]) -> Result<String> {
-    let page = DataBlockRef::<H>::check(alloc, payload)?;
-    let heads = page.make_heads(alloc)?;
-    by_views(alloc, &page.with_table(&heads))
+/// The entries of the payload, which is borrowed, with a table of their heads that is borrowed too.
+fn put_tabled_views<H: BlockHash>(payload: &[u8], case: &mut Case<'_>) {
+    let Ok(page) = DataBlockRef::<H>::check(case.alloc, payload) else {
+        case.refuse(Error::Memory);
+        return;
+    };
+    match page.make_heads(case.alloc) {
+        Ok(heads) => put_views(&page.with_table(&heads), case),
+        Err(error) => case.refuse(error),
+    }
 }
 
-/// The entries of the payload, which is lent, by each way to go over it.
-fn by_lent<H: BlockHash>(alloc: Global, payload: &[u8]) -> Result<String> {
-    let page = DataBlockRef::<H>::check(alloc, payload)?;
-    let all = by_views(alloc, &page);
-    let all = alike(
-        alloc,
-        all,
-        "with a table",
-        by_tabled_views::<H>(alloc, payload),
-    );
-    alike(alloc, all, "from the back", by_views_back(alloc, &page))
+/// The entries of the payload, which is borrowed, by each way to visit them.
+fn put_borrowed<H: BlockHash>(payload: &[u8], page: &DataBlockRef<'_, H>, case: &mut Case<'_>) {
+    let mut ways = case.ways();
+    put_views(page, case);
+    case.other(&mut ways, "with a table");
+    put_tabled_views::<H>(payload, case);
+    case.agree(&mut ways);
+    case.other(&mut ways, "from the back");
+    put_views_back(page, case);
+    case.agree(&mut ways);
 }
 
-/// The number of the entries, and their digest, by each way to go over them.
-pub fn entries<H: BlockHash>(alloc: Global, payload: &[u8], opened: &Opened<H>) -> Result<String> {
-    let block = opened.bare()?;
-    let all = by_items(alloc, block);
-    let all = alike(alloc, all, "by entries", by_views(alloc, &block.by_ref()));
-    alike(alloc, all, "by views", by_lent::<H>(alloc, payload))
+/// The number of the entries, and their digest, by each way to visit them.
+pub fn entries<H: BlockHash>(payload: &[u8], opened: &Opened<H>, case: &mut Case<'_>) {
+    let Some(block) = opened.bare(case) else {
+        return;
+    };
+    let mut ways = case.ways();
+    put_items(block, case);
+    case.other(&mut ways, "by entries");
+    put_views(&block.by_ref(), case);
+    case.agree(&mut ways);
+    case.other(&mut ways, "by views");
+    match DataBlockRef::<H>::check(case.alloc, payload) {
+        Ok(page) => put_borrowed(payload, &page, case),
+        Err(error) => case.refuse(error),
+    }
+    case.agree(&mut ways);
 }

@@ -1,10 +1,11 @@
 //! Commands that make lists of handles, and encode them as an index block.
 
+use crate::case::Case;
 use crate::fault::{Fault, Result};
 use crate::indexes::index_block;
 use crate::room::Room;
-use crate::texts::word_of_table;
-use crate::words::{bytes_of, hex_of, number_of, parts_of, size_of, small_of};
+use crate::texts::put_table;
+use crate::words::{number_of, parts_of, size_of};
 use sst_base::table::block::{BlockHandle, BlockOffset};
 use sst_base::{Error, Slice};
 use sst_block_core::{IndexBlock, KeyedBlockHandle};
@@ -13,42 +14,71 @@ use std::alloc::Global;
 /// The longest end key.
 const MAX_KEY_LEN: usize = 65535;
 
+/// Returns the plain handle of the words of its parts.
+fn plain_of(offset: &str, size: &str) -> Result<BlockHandle> {
+    match (number_of(offset), size_of(size)) {
+        (Ok(offset), Ok(size)) => Ok(BlockHandle::new(BlockOffset(offset), size)),
+        _ => Err(Fault::Word),
+    }
+}
+
+/// Returns the handle of its parts.
+fn handle_with(
+    key: Vec<u8>,
+    seqno: u64,
+    handle: BlockHandle,
+    case: &mut Case<'_>,
+) -> Option<KeyedBlockHandle> {
+    if key.len() > MAX_KEY_LEN {
+        case.note(Fault::Word);
+        return None;
+    }
+    match Slice::from_vec(key) {
+        Ok(key) => Some(KeyedBlockHandle::new(key, seqno, handle)),
+        Err(error) => {
+            case.refuse(error);
+            None
+        }
+    }
+}
+
 /// Returns the handle that a word encodes: sequence number, end key, offset and size, joined by
 /// dots.
-fn handle_of(alloc: Global, word: &str) -> Result<KeyedBlockHandle> {
-    let (seqno, key, offset, size) = parts_of(word)?;
-    let (seqno, offset) = (number_of(seqno)?, number_of(offset)?);
-    let handle = BlockHandle::new(BlockOffset(offset), size_of(size)?);
-    let key = bytes_of(alloc, key)?;
-    if key.len() > MAX_KEY_LEN {
-        return Err(Fault::Word);
-    }
-    Ok(KeyedBlockHandle::new(Slice::from_vec(key)?, seqno, handle))
+fn handle_in(word: &str, case: &mut Case<'_>) -> Option<KeyedBlockHandle> {
+    let parts = case.made(parts_of(word))?;
+    let handle = case.made(plain_of(parts.2, parts.3))?;
+    let seqno = case.number_in(parts.0);
+    handle_with(case.bytes_in(parts.1), seqno, handle, case)
 }
 
-/// Returns the word of a handle.
-pub fn word_of(alloc: Global, handle: &KeyedBlockHandle) -> Result<String> {
-    let key = hex_of(alloc, handle.end_key().as_slice())?;
-    let (seqno, offset, size) = (handle.seqno(), *handle.offset(), handle.size());
-    Ok(format!(in alloc; "{seqno}.{key}.{offset}.{size}")?)
+/// Adds the word of a handle.
+pub fn put_handle(handle: &KeyedBlockHandle, case: &mut Case<'_>) {
+    case.put_number(handle.seqno());
+    case.put(".");
+    case.put_bytes(handle.end_key().as_slice());
+    case.put(".");
+    case.put_number(*handle.offset());
+    case.put(".");
+    case.put_number(u64::from(handle.size()));
 }
 
-/// Appends the handles of some words.
-fn add(alloc: Global, room: &mut Room, words: &[&str]) -> Result<String> {
-    for word in words {
-        room.handles.push(handle_of(alloc, word)?)?;
+/// Appends the handles of the words.
+fn add(room: &mut Room, case: &mut Case<'_>) {
+    for word in case.rest() {
+        if let Some(handle) = handle_in(word, case) {
+            case.push(&mut room.handles, handle);
+        }
     }
-    Ok(format!(in alloc; "{} handles", room.handles.len())?)
+    case.put_count(room.handles.len(), " handles");
 }
 
 /// Whether the handles are in order, and whether all frames end below 2^64.
-fn tests(alloc: Global, room: &Room) -> Result<String> {
+fn tests(room: &Room, case: &mut Case<'_>) {
     let handles = room.handles.as_slice();
-    let (ordered, fit) = (
-        IndexBlock::is_ordered(handles),
-        IndexBlock::ends_fit(handles),
-    );
-    Ok(format!(in alloc; "ordered {ordered}, fit {fit}")?)
+    case.put("ordered ");
+    case.put_truth(IndexBlock::is_ordered(handles));
+    case.put(", fit ");
+    case.put_truth(IndexBlock::ends_fit(handles));
 }
 
 /// Encodes handles at an interval.
@@ -71,20 +101,29 @@ fn encoded(alloc: Global, handles: &[KeyedBlockHandle], interval: u8) -> Result<
     Ok(bytes)
 }
 
-/// The number of heads in the table of a block of a payload.
-fn heads_in(alloc: Global, payload: &[u8]) -> Result<String> {
-    let block = index_block(alloc, payload, true)?;
-    word_of_table(alloc, block.heads())
+/// The length of a payload, and the number of heads in the table of its block.
+fn put_payload(payload: &[u8], case: &mut Case<'_>) {
+    case.put_count(payload.len(), " bytes, ");
+    match index_block(case.alloc, payload, true) {
+        Ok(block) => put_table(block.heads(), case),
+        Err(fault) => case.note(fault),
+    }
+    case.put(" heads");
 }
 
 /// Encodes the handles, at 1 also by the call without an interval: INTERVAL.
-fn encode(alloc: Global, room: &mut Room, words: &[&str]) -> Result<String> {
-    let [interval] = words else {
-        return Err(Fault::Word);
-    };
-    room.payload = encoded(alloc, room.handles.as_slice(), small_of(interval)?)?;
-    let heads = heads_in(alloc, room.payload.as_slice())?;
-    Ok(format!(in alloc; "{} bytes, {heads} heads", room.payload.len())?)
+fn encode(room: &mut Room, case: &mut Case<'_>) {
+    let interval = case.small();
+    if !case.ends() {
+        return;
+    }
+    match encoded(case.alloc, room.handles.as_slice(), interval) {
+        Ok(bytes) => {
+            room.payload = bytes;
+            put_payload(room.payload.as_slice(), case);
+        }
+        Err(fault) => case.note(fault),
+    }
 }
 
 /// A clone of a handle, with an offset that is greater by a number.
@@ -104,41 +143,39 @@ fn is_plain(handle: KeyedBlockHandle) -> bool {
     is_plain && handle.into_inner() == parts
 }
 
-/// The text of a handle, whether it is another one, and whether it is a plain handle of its parts.
-fn text_of(alloc: Global, handle: KeyedBlockHandle, other: &KeyedBlockHandle) -> Result<String> {
-    let (word, same) = (word_of(alloc, &handle)?, handle == *other);
-    let plain = is_plain(handle);
-    Ok(format!(in alloc; "{word}, the same {same}, plain {plain}")?)
+/// A handle, whether it is another one, and whether it is a plain handle of its parts.
+fn put_shifted(handle: KeyedBlockHandle, other: &KeyedBlockHandle, case: &mut Case<'_>) {
+    put_handle(&handle, case);
+    case.put(", the same ");
+    case.put_truth(handle == *other);
+    case.put(", plain ");
+    case.put_truth(is_plain(handle));
 }
 
 /// A handle whose offset is greater by a number, whether it is the handle before, and whether it is
 /// a plain handle of its parts: HANDLE NUMBER.
-fn shift(alloc: Global, words: &[&str]) -> Result<String> {
-    let [word, by] = words else {
-        return Err(Fault::Word);
+fn shift(case: &mut Case<'_>) {
+    let Some(handle) = handle_in(case.word(), case) else {
+        return;
     };
-    let by = number_of(by)?;
-    let handle = handle_of(alloc, word)?;
-    text_of(alloc, shifted(&handle, by)?, &handle)
-}
-
-/// The number of heads in the table of a block's clone.
-fn heads_of_clone(alloc: Global, block: &IndexBlock) -> Result<String> {
-    let clone = block.clone()?;
-    word_of_table(alloc, clone.heads())
+    let by = case.number();
+    if case.ends() {
+        match shifted(&handle, by) {
+            Ok(shifted) => put_shifted(shifted, &handle, case),
+            Err(fault) => case.note(fault),
+        }
+    }
 }
 
 /// The number of heads in the table of a block, and in that of its clone.
-fn heads_of(alloc: Global, block: &IndexBlock) -> Result<String> {
-    let heads = word_of_table(alloc, block.heads())?;
-    let cloned = heads_of_clone(alloc, block)?;
-    Ok(format!(in alloc; "{heads}, clone {cloned}")?)
-}
-
-/// The numbers of heads of the block of a payload.
-fn heads_checked(alloc: Global, payload: &[u8]) -> Result<String> {
-    let block = index_block(alloc, payload, true)?;
-    heads_of(alloc, &block)
+fn put_heads(block: &IndexBlock, case: &mut Case<'_>) {
+    put_table(block.heads(), case);
+    case.put(", clone ");
+    let copy: std::result::Result<_, _> = block.clone();
+    match copy {
+        Ok(clone) => put_table(clone.heads(), case),
+        Err(_) => case.refuse(Error::Memory),
+    }
 }
 
 /// A block that is new, of a payload.
@@ -146,48 +183,46 @@ fn new_block(alloc: Global, payload: &[u8]) -> Result<IndexBlock> {
     Ok(IndexBlock::new(index_block(alloc, payload, true)?.into_inner()))
 }
 
-/// The numbers of heads of a block that is new.
-fn heads_new(alloc: Global, payload: &[u8]) -> Result<String> {
-    let block = new_block(alloc, payload)?;
-    heads_of(alloc, &block)
-}
-
-/// The number of heads in the table that is made of a new block's.
-fn heads_made(alloc: Global, payload: &[u8]) -> Result<String> {
-    match new_block(alloc, payload)?.with_heads(alloc) {
-        Ok(block) => word_of_table(alloc, block.heads()),
-        Err(_) => Err(Fault::Refused(Error::Memory)),
+/// The number of heads in the table of a block that is new, in that of its clone, and in the table
+/// that is made of it.
+fn put_new_heads(block: IndexBlock, case: &mut Case<'_>) {
+    put_heads(&block, case);
+    case.put(", made ");
+    match block.with_heads(case.alloc) {
+        Ok(block) => put_table(block.heads(), case),
+        Err(_) => case.refuse(Error::Memory),
     }
 }
 
 /// Which blocks have a table of their heads, and of how many: one that was checked, its clone, one
 /// that is new, its clone, and one of which the table was made.
-fn table(alloc: Global, room: &Room) -> Result<String> {
+fn table(room: &Room, case: &mut Case<'_>) {
     let payload = room.payload.as_slice();
-    let checked = heads_checked(alloc, payload)?;
-    let new = heads_new(alloc, payload)?;
-    let made = heads_made(alloc, payload)?;
-    Ok(format!(in alloc; "checked {checked}, new {new}, made {made}")?)
+    case.put("checked ");
+    match index_block(case.alloc, payload, true) {
+        Ok(block) => put_heads(&block, case),
+        Err(fault) => case.note(fault),
+    }
+    case.put(", new ");
+    match new_block(case.alloc, payload) {
+        Ok(block) => put_new_heads(block, case),
+        Err(fault) => case.note(fault),
+    }
 }
 
 /// Performs a command, if it is one on handles.
-pub fn perform(
-    alloc: Global,
-    room: &mut Room,
-    name: &str,
-    words: &[&str],
-) -> Result<Option<String>> {
-    let answer = match name {
+pub fn perform(room: &mut Room, name: &str, case: &mut Case<'_>) -> bool {
+    match name {
         "handles" => {
-            room.handles = Vec::new(alloc);
-            add(alloc, room, words)
+            room.handles = Vec::new(case.alloc);
+            add(room, case);
         }
-        "add_handles" => add(alloc, room, words),
-        "tests" => tests(alloc, room),
-        "index" => encode(alloc, room, words),
-        "shift" => shift(alloc, words),
-        "table_index" => table(alloc, room),
-        _ => return Ok(None),
-    };
-    Ok(Some(answer?))
+        "add_handles" => add(room, case),
+        "tests" => tests(room, case),
+        "index" => encode(room, case),
+        "shift" => shift(case),
+        "table_index" => table(room, case),
+        _ => return false,
+    }
+    true
 }

@@ -2,6 +2,7 @@
 mod handles;
 mod walks;
 
+use crate::case::Case;
 use crate::fault::Result;
 use crate::room::{Room, block_with};
 use sst_base::table::block::BlockType;
@@ -19,14 +20,6 @@ pub fn index_block(alloc: Global, payload: &[u8], tabled: bool) -> Result<IndexB
 }
 
 /// Performs a command, if it is one on index blocks.
-pub fn perform(
-    alloc: Global,
-    room: &mut Room,
-    name: &str,
-    words: &[&str],
-) -> Result<Option<String>> {
-    if let Some(answer) = handles::perform(alloc, room, name, words)? {
-        return Ok(Some(answer));
-    }
-    walks::perform(alloc, room, name, words)
+pub fn perform(room: &mut Room, name: &str, case: &mut Case<'_>) -> bool {
+    handles::perform(room, name, case) || walks::perform(room, name, case)
 }

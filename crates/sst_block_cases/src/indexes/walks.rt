@@ -2,47 +2,57 @@
 ghost use Rattle.std.specs.Prelude.{◌≡◌, IfSome};
 ghost use Rattle.sst_block_core.specs.ParsedHandle.{IsParsedHandle};
 
+use crate::case::Case;
 use crate::digest::Counted;
 use crate::fault::{Fault, Result};
-use crate::indexes::handles::word_of;
+use crate::indexes::handles::put_handle;
 use crate::indexes::index_block;
 use crate::room::Room;
-use crate::words::{
-    Row, alike, bytes_of, number_of, pair_of, push_word, repeated, slice_of, truth,
-};
-use sst_base::Slice;
 use sst_base::table::block::BlockHandle;
+use sst_base::{Error, Slice};
 use sst_block_core::table::index_block::{Answer, HandleView, HandleViews, IndexOp, Iter, walk};
 use sst_block_core::{IndexBlock, IndexBlockParsedItem, IndexBlockRef, KeyedBlockHandle};
 use std::alloc::Global;
 
+/// The seek of a name, a key and a sequence number.
+fn seek_of(name: &str, key: Slice, seqno: u64, case: &mut Case<'_>) -> Option<IndexOp> {
+    match name {
+        "seek" => Some(IndexOp::Seek(key, seqno)),
+        "upper" => Some(IndexOp::SeekUpper(key, seqno)),
+        _ => {
+            case.note(Fault::Word);
+            None
+        }
+    }
+}
+
 /// The operation of a word: a step, or a seek with its name, its key and its sequence number,
 /// joined by `:`.
-fn op_of(alloc: Global, word: &str) -> Result<IndexOp> {
+fn op_of(word: &str, case: &mut Case<'_>) -> Option<IndexOp> {
     if word == "next" {
-        return Ok(IndexOp::Next);
+        return Some(IndexOp::Next);
     }
     if word == "back" {
-        return Ok(IndexOp::NextBack);
+        return Some(IndexOp::NextBack);
     }
-    let (name, rest) = pair_of(word, ':')?;
-    let (key, seqno) = pair_of(rest, ':')?;
-    let seqno = number_of(seqno)?;
-    match name {
-        "seek" => Ok(IndexOp::Seek(slice_of(alloc, key)?, seqno)),
-        "upper" => Ok(IndexOp::SeekUpper(slice_of(alloc, key)?, seqno)),
-        _ => Err(Fault::Word),
+    let (name, rest) = case.pair_in(word, ':');
+    let (key, seqno) = case.pair_in(rest, ':');
+    let seqno = case.number_in(seqno);
+    match case.slice_in(key) {
+        Some(key) => seek_of(name, key, seqno, case),
+        None => None,
     }
 }
 
 /// The operations of some words.
-fn ops_of(alloc: Global, words: &[&str]) -> Result<Vec<IndexOp>> {
-    let words = repeated(alloc, words)?;
-    let mut ops = Vec::new(alloc);
-    for word in &words {
-        ops.push(op_of(alloc, word)?)?;
+fn ops_of(words: &[&str], case: &mut Case<'_>) -> Vec<IndexOp> {
+    let mut ops = Vec::new(case.alloc);
+    for word in words {
+        if let Some(op) = op_of(word, case) {
+            case.push(&mut ops, op);
+        }
     }
-    Ok(ops)
+    ops
 }
 
 /// Whether the parts of a handle that borrows its block are those of the handle that it is made as.
@@ -58,325 +68,315 @@ fn made_of(alloc: Global, handle: &HandleView<'_>) -> Result<KeyedBlockHandle> {
     Ok(handle.clone()?.to_handle(alloc)?)
 }
 
-/// The word of a handle that a view is made as, which says if it has other parts than the view.
-fn word_of_made(alloc: Global, handle: &HandleView<'_>, made: &KeyedBlockHandle) -> Result<String> {
-    if are_parts_of(handle, made) {
-        word_of(alloc, made)
-    } else {
-        Ok(String::from_str(alloc, "other parts")?)
-    }
-}
-
-/// Returns the word of a handle that borrows its block.
-fn word_of_view(alloc: Global, handle: &HandleView<'_>) -> Result<String> {
-    match made_of(alloc, handle) {
-        Ok(made) => word_of_made(alloc, handle, &made),
-        Err(fault) => Err(fault),
+/// Adds the word of a handle that borrows its block, or that its parts are others than those of
+/// the handle that it is made as.
+fn put_view(handle: &HandleView<'_>, case: &mut Case<'_>) {
+    match &made_of(case.alloc, handle) {
+        Ok(made) if are_parts_of(handle, made) => put_handle(made, case),
+        Ok(_) => case.put("other parts"),
+        Err(fault) => case.note(*fault),
     }
 }
 
 /// The word of an item that a step takes.
-fn taken(alloc: Global, block: &IndexBlock, item: Option<IndexBlockParsedItem>) -> Result<String>
+fn put_taken(block: &IndexBlock, item: Option<IndexBlockParsedItem>, case: &mut Case<'_>)
     requires { IfSome item (IsParsedHandle block.now.payload) }
 {
     match item {
-        Some(item) => word_of_view(alloc, &block.handle(item)),
-        None => Ok(String::from_str(alloc, "none")?),
+        Some(item) => put_view(&block.handle(item), case),
+        None => case.put("none"),
     }
 }
 
 /// Performs an operation of an iterator that borrows its block.
-fn perform_op(
-    alloc: Global,
-    block: &IndexBlock,
-    iter: &mut Iter<'_>,
-    op: &IndexOp,
-) -> Result<String>
+fn perform_op(block: &IndexBlock, iter: &mut Iter<'_>, op: &IndexOp, case: &mut Case<'_>)
     requires { iter.old.payload ≡ block.now.payload }
     ensures { iter.new.payload ≡ block.now.payload }
 {
     match op {
-        IndexOp::Next => taken(alloc, block, iter.next()),
-        IndexOp::NextBack => taken(alloc, block, iter.next_back()),
-        IndexOp::Seek(key, seqno) => truth(alloc, iter.seek(key.as_slice(), *seqno)),
-        IndexOp::SeekUpper(key, seqno) => truth(alloc, iter.seek_upper(key.as_slice(), *seqno)),
+        IndexOp::Next => put_taken(block, iter.next(), case),
+        IndexOp::NextBack => put_taken(block, iter.next_back(), case),
+        IndexOp::Seek(key, seqno) => case.put_truth(iter.seek(key.as_slice(), *seqno)),
+        IndexOp::SeekUpper(key, seqno) => case.put_truth(iter.seek_upper(key.as_slice(), *seqno)),
     }
 }
 
 /// Makes a call of an iterator that borrows its block.
-fn call(alloc: Global, block: &IndexBlock, iter: &mut Iter<'_>, word: &str) -> Result<String>
+fn call(block: &IndexBlock, iter: &mut Iter<'_>, word: &str, case: &mut Case<'_>)
     requires { iter.old.payload ≡ block.now.payload }
     ensures { iter.new.payload ≡ block.now.payload }
 {
     if word == "left" {
-        return Ok(format!(in alloc; "{}", iter.count_left())?);
+        case.put_count(iter.count_left(), "");
+    } else if let Some(op) = op_of(word, case) {
+        perform_op(block, iter, &op, case);
     }
-    let op = op_of(alloc, word)?;
-    perform_op(alloc, block, iter, &op)
 }
 
 /// Makes calls of an iterator that borrows its block.
-fn by_iterator(alloc: Global, block: &IndexBlock, words: &[&str]) -> Result<String> {
+fn by_iterator(block: &IndexBlock, words: &[&str], case: &mut Case<'_>) {
     let mut iter = block.iter();
-    let mut row = Row::new(alloc);
     for word in words {
-        row.add(call(alloc, block, &mut iter, word));
+        case.space();
+        call(block, &mut iter, word, case);
     }
-    row.text()
 }
 
 /// Steps of an iterator over the payload, without the table of the heads or with it.
-fn stepped(alloc: Global, room: &Room, words: &[&str], tabled: bool) -> Result<String> {
-    let block = index_block(alloc, room.payload.as_slice(), tabled)?;
-    by_iterator(alloc, &block, words)
+fn stepped(payload: &[u8], words: &[&str], tabled: bool, case: &mut Case<'_>) {
+    match index_block(case.alloc, payload, tabled) {
+        Ok(block) => by_iterator(&block, words, case),
+        Err(fault) => case.note(fault),
+    }
 }
 
 /// Steps of an iterator, counts among them, without the table of the heads and with it.
-fn steps(alloc: Global, room: &Room, words: &[&str]) -> Result<String> {
-    let words = repeated(alloc, words)?;
-    let bare = stepped(alloc, room, words.as_slice(), false);
-    let tabled = stepped(alloc, room, words.as_slice(), true);
-    alike(alloc, bare, "by the table", tabled)
+fn steps(room: &Room, words: &[&str], case: &mut Case<'_>) {
+    let payload = room.payload.as_slice();
+    let mut ways = case.ways();
+    stepped(payload, words, false, case);
+    case.other(&mut ways, "by the table");
+    stepped(payload, words, true, case);
+    case.agree(&mut ways);
 }
 
-/// The text of what `walk` answers.
-fn text_of(alloc: Global, answers: &[Answer<KeyedBlockHandle>]) -> Result<String> {
-    let mut row = Row::new(alloc);
+/// What `walk` answers.
+fn put_answers(answers: &[Answer<KeyedBlockHandle>], case: &mut Case<'_>) {
     for answer in answers {
+        case.space();
         match answer {
-            Answer::Found(found) => row.add(truth(alloc, *found)),
-            Answer::Item(Some(handle)) => row.add(word_of(alloc, handle)),
-            Answer::Item(None) => row.push("none"),
+            Answer::Found(found) => case.put_truth(*found),
+            Answer::Item(Some(handle)) => put_handle(handle, case),
+            Answer::Item(None) => case.put("none"),
         }
     }
-    row.text()
 }
 
-/// What `walk` answers over a block.
-fn walked(alloc: Global, block: &IndexBlock, ops: &[IndexOp]) -> Result<String> {
-    let answers = walk(alloc, block, ops)?;
-    text_of(alloc, answers.as_slice())
-}
-
-/// A clone of the block of the payload, without the table of the heads or with it.
-fn cloned(alloc: Global, room: &Room, tabled: bool) -> Result<IndexBlock> {
-    let block = index_block(alloc, room.payload.as_slice(), tabled)?;
-    Ok(block.clone()?)
-}
-
-/// What `walk` answers over a clone, without the table of the heads or with it.
-fn walked_over(alloc: Global, room: &Room, ops: &[IndexOp], tabled: bool) -> Result<String> {
-    let block = cloned(alloc, room, tabled)?;
-    walked(alloc, &block, ops)
-}
-
-/// What `walk` answers over a clone, without the table of the heads and with it, after another
-/// answer.
-fn walked_after(
-    alloc: Global,
-    room: &Room,
-    ops: &[IndexOp],
-    all: Result<String>,
-) -> Result<String> {
-    let bare = walked_over(alloc, room, ops, false);
-    let tabled = walked_over(alloc, room, ops, true);
-    let all = alike(alloc, all, "by walk", bare);
-    alike(alloc, all, "by walk with a table", tabled)
-}
-
-/// Steps of an iterator, by one that borrows its block, and by `walk` over a clone, without the
-/// table of the heads and with it.
-fn walks(alloc: Global, room: &Room, words: &[&str]) -> Result<String> {
-    let all = steps(alloc, room, words)?;
-    let ops = ops_of(alloc, words)?;
-    walked_after(alloc, room, ops.as_slice(), Ok(all))
-}
-
-/// Appends the word of a handle.
-fn push_view(alloc: Global, words: &mut Vec<String>, handle: &HandleView<'_>) -> Result<()> {
-    match word_of_view(alloc, handle) {
-        Ok(word) => Ok(words.push(word)?),
+/// A clone of the block of a payload, without the table of the heads or with it.
+fn cloned(alloc: Global, payload: &[u8], tabled: bool) -> Result<IndexBlock> {
+    match index_block(alloc, payload, tabled) {
+        Ok(block) => Ok(block.clone()?),
         Err(fault) => Err(fault),
     }
 }
 
-/// The words of handles from the front.
-fn words_of(alloc: Global, handles: HandleViews<'_>) -> Result<Vec<String>> {
-    let mut words = Vec::new(alloc);
-    for handle in handles {
-        push_view(alloc, &mut words, &handle)?;
+/// What `walk` answers over a block.
+fn walked(block: &IndexBlock, ops: &[IndexOp], case: &mut Case<'_>) {
+    match walk(case.alloc, block, ops) {
+        Ok(answers) => put_answers(answers.as_slice(), case),
+        Err(error) => case.refuse(error),
     }
-    Ok(words)
 }
 
-/// The words of handles from the back, the first of which stands first again.
-fn words_back(alloc: Global, handles: HandleViews<'_>) -> Result<Vec<String>> {
-    let mut words = Vec::new(alloc);
+/// What `walk` answers over a clone, without the table of the heads or with it.
+fn walked_over(room: &Room, ops: &[IndexOp], tabled: bool, case: &mut Case<'_>) {
+    match cloned(case.alloc, room.payload.as_slice(), tabled) {
+        Ok(block) => walked(&block, ops, case),
+        Err(fault) => case.note(fault),
+    }
+}
+
+/// Steps of an iterator, by one that borrows its block, and by `walk` over a clone, without the
+/// table of the heads and with it.
+fn walks(room: &Room, words: &[&str], case: &mut Case<'_>) {
+    let ops = ops_of(words, case);
+    let mut ways = case.ways();
+    steps(room, words, case);
+    case.other(&mut ways, "by walk");
+    walked_over(room, ops.as_slice(), false, case);
+    case.agree(&mut ways);
+    case.other(&mut ways, "by walk with a table");
+    walked_over(room, ops.as_slice(), true, case);
+    case.agree(&mut ways);
+}
+
+/// Appends the word of a handle.
+fn push_view(words: &mut Vec<String>, handle: &HandleView<'_>, case: &mut Case<'_>) {
+    let start = case.mark();
+    put_view(handle, case);
+    match String::from_str(case.alloc, case.text_from(start)) {
+        Ok(word) => case.push(words, word),
+        Err(_) => case.refuse(Error::Memory),
+    }
+    case.cut(start);
+}
+
+/// The words of handles from the front.
+fn words_of(handles: HandleViews<'_>, case: &mut Case<'_>) -> Vec<String> {
+    let mut words = Vec::new(case.alloc);
+    for handle in handles {
+        push_view(&mut words, &handle, case);
+    }
+    words
+}
+
+/// The words of handles taken from the back, the first of which is the first again.
+fn words_back(handles: HandleViews<'_>, case: &mut Case<'_>) -> Vec<String> {
+    let mut words = Vec::new(case.alloc);
     for handle in handles.rev() {
-        push_view(alloc, &mut words, &handle)?;
+        push_view(&mut words, &handle, case);
     }
     words.reverse();
-    Ok(words)
+    words
 }
 
-/// The text of the words of handles: their number, and each of them.
-fn joined(alloc: Global, words: &[String]) -> Result<String> {
-    let mut text = format!(in alloc; "{} left", words.len())?;
+/// Adds the words of handles: their number, and each of them.
+fn put_words(words: &[String], case: &mut Case<'_>) {
+    case.put_count(words.len(), " left");
     for word in words {
-        push_word(&mut text, word.as_str())?;
+        case.put(" ");
+        case.put(word.as_str());
     }
-    Ok(text)
-}
-
-/// A bound of a word: a key, `:` and a sequence number.
-fn bound_of(alloc: Global, word: &str) -> Result<Bound> {
-    let (key, seqno) = pair_of(word, ':')?;
-    Ok((bytes_of(alloc, key)?, number_of(seqno)?))
 }
 
 /// A key and a sequence number.
 type Bound = (Vec<u8>, u64);
 
+/// Takes a bound: a key, `:` and a sequence number.
+fn bound_of(case: &mut Case<'_>) -> Bound {
+    let word = case.word();
+    let (key, seqno) = case.pair_in(word, ':');
+    (case.bytes_in(key), case.number_in(seqno))
+}
+
 /// The handles between two bounds, the lower one sought first, from the front.
-fn between_front(alloc: Global, block: &IndexBlock, from: &Bound, upto: &Bound) -> Result<String> {
+fn put_front(block: &IndexBlock, from: &Bound, upto: &Bound, case: &mut Case<'_>) {
     let mut iter = block.iter();
     iter.seek(from.0.as_slice(), from.1);
     iter.seek_upper(upto.0.as_slice(), upto.1);
-    let words = words_of(alloc, HandleViews::new(&block.by_ref(), iter))?;
-    joined(alloc, words.as_slice())
+    let words = words_of(HandleViews::new(&block.by_ref(), iter), case);
+    put_words(words.as_slice(), case);
 }
 
 /// The handles between two bounds, the upper one sought first, from the back.
-fn between_back(alloc: Global, block: &IndexBlock, from: &Bound, upto: &Bound) -> Result<String> {
+fn put_back(block: &IndexBlock, from: &Bound, upto: &Bound, case: &mut Case<'_>) {
     let mut iter = block.iter();
     iter.seek_upper(upto.0.as_slice(), upto.1);
     iter.seek(from.0.as_slice(), from.1);
-    let words = words_back(alloc, HandleViews::new(&block.by_ref(), iter))?;
-    joined(alloc, words.as_slice())
+    let words = words_back(HandleViews::new(&block.by_ref(), iter), case);
+    put_words(words.as_slice(), case);
 }
 
-/// The handles of the payload between two bounds, from the front and from the back.
-fn between_of(alloc: Global, room: &Room, from: &Bound, upto: &Bound) -> Result<String> {
-    let block = index_block(alloc, room.payload.as_slice(), false)?;
-    let front = between_front(alloc, &block, from, upto);
-    let back = between_back(alloc, &block, from, upto);
-    alike(alloc, front, "from the back", back)
+/// The handles of a block between two bounds, from the front and from the back.
+fn put_between(block: &IndexBlock, from: &Bound, upto: &Bound, case: &mut Case<'_>) {
+    let mut ways = case.ways();
+    put_front(block, from, upto, case);
+    case.other(&mut ways, "from the back");
+    put_back(block, from, upto, case);
+    case.agree(&mut ways);
 }
 
 /// The handles between two bounds, the lower one sought first from the front, and the upper one
 /// first from the back: BOUND BOUND.
-fn between(alloc: Global, room: &Room, words: &[&str]) -> Result<String> {
-    let [from, upto] = words else {
-        return Err(Fault::Word);
-    };
-    let (from, upto) = (bound_of(alloc, from)?, bound_of(alloc, upto)?);
-    between_of(alloc, room, &from, &upto)
+fn between(room: &Room, case: &mut Case<'_>) {
+    let (from, upto) = (bound_of(case), bound_of(case));
+    if !case.ends() {
+        return;
+    }
+    match index_block(case.alloc, room.payload.as_slice(), false) {
+        Ok(block) => put_between(&block, &from, &upto, case),
+        Err(fault) => case.note(fault),
+    }
 }
 
 /// The number and the digest of the words of handles.
-fn digest_of(alloc: Global, words: &[String]) -> Result<String> {
+fn put_digest(words: &[String], case: &mut Case<'_>) {
     let mut all = Counted::new();
     for word in words {
         all.push(word.as_str());
     }
-    all.text(alloc, "handles")
+    all.put("handles", case);
 }
 
 /// The digest of handles from the front.
-fn digest_front(alloc: Global, handles: HandleViews<'_>) -> Result<String> {
-    match words_of(alloc, handles) {
-        Ok(words) => digest_of(alloc, words.as_slice()),
-        Err(fault) => Err(fault),
+fn put_digest_front(handles: HandleViews<'_>, case: &mut Case<'_>) {
+    let words = words_of(handles, case);
+    put_digest(words.as_slice(), case);
+}
+
+/// The digest of the handles of a block, from either end.
+fn put_digests(block: &IndexBlock, case: &mut Case<'_>) {
+    let mut ways = case.ways();
+    put_digest_front(block.handles(), case);
+    case.other(&mut ways, "from the back");
+    let words = words_back(block.handles(), case);
+    put_digest(words.as_slice(), case);
+    case.agree(&mut ways);
+}
+
+/// The digest of handles of borrowed bytes, with a table of their heads.
+fn put_tabled(payload: &[u8], case: &mut Case<'_>) {
+    let Ok(page) = IndexBlockRef::check(payload) else {
+        case.note(Fault::Word);
+        return;
+    };
+    match page.make_heads(case.alloc) {
+        Ok(heads) => put_digest_front(page.with_table(&heads).handles(), case),
+        Err(error) => case.refuse(error),
     }
 }
 
-/// The digest of handles from the back.
-fn digest_back(alloc: Global, handles: HandleViews<'_>) -> Result<String> {
-    match words_back(alloc, handles) {
-        Ok(words) => digest_of(alloc, words.as_slice()),
-        Err(fault) => Err(fault),
+/// The digest of handles of borrowed bytes.
+fn put_borrowed(payload: &[u8], case: &mut Case<'_>) {
+    match IndexBlockRef::check(payload) {
+        Ok(page) => put_digest_front(page.handles(), case),
+        Err(error) => case.refuse(error),
     }
 }
 
-/// The digest of the handles of the payload, from either end.
-fn digests(alloc: Global, room: &Room) -> Result<String> {
-    let block = index_block(alloc, room.payload.as_slice(), false)?;
-    let front = digest_front(alloc, block.handles());
-    let back = digest_back(alloc, block.handles());
-    alike(alloc, front, "from the back", back)
+/// The number of the handles, and their digest, by each way to visit them.
+fn handles(room: &Room, case: &mut Case<'_>) {
+    let payload = room.payload.as_slice();
+    let mut ways = case.ways();
+    match index_block(case.alloc, payload, false) {
+        Ok(block) => put_digests(&block, case),
+        Err(fault) => case.note(fault),
+    }
+    case.other(&mut ways, "by views");
+    put_borrowed(payload, case);
+    case.agree(&mut ways);
+    case.other(&mut ways, "with a table");
+    put_tabled(payload, case);
+    case.agree(&mut ways);
 }
 
-/// The digest of the handles of the payload, which is lent.
-fn by_lent(alloc: Global, room: &Room) -> Result<String> {
-    let page = IndexBlockRef::check(room.payload.as_slice())?;
-    digest_front(alloc, page.handles())
-}
-
-/// The digest of the handles of the payload, which is lent, with a table of their heads.
-fn by_lent_with_table(alloc: Global, room: &Room) -> Result<String> {
-    let page = IndexBlockRef::check(room.payload.as_slice())?;
-    let heads = page.make_heads(alloc)?;
-    digest_front(alloc, page.with_table(&heads).handles())
-}
-
-/// The number of the handles, and their digest, by each way to go over them.
-fn handles(alloc: Global, room: &Room) -> Result<String> {
-    let all = alike(
-        alloc,
-        digests(alloc, room),
-        "by views",
-        by_lent(alloc, room),
-    );
-    alike(alloc, all, "with a table", by_lent_with_table(alloc, room))
-}
-
-/// Appends a handle that borrows its block to a list.
-fn push_handle(
-    alloc: Global,
-    handles: &mut Vec<KeyedBlockHandle>,
-    handle: &HandleView<'_>,
-) -> Result<()> {
-    handles.push(handle.to_handle(alloc)?)?;
-    Ok(())
-}
-
-/// The handles of a block.
-fn handles_in(alloc: Global, block: &IndexBlock) -> Result<Vec<KeyedBlockHandle>> {
-    let mut handles = Vec::new(alloc);
+/// Appends the handles of a block to a list.
+fn push_handles(list: &mut Vec<KeyedBlockHandle>, block: &IndexBlock, case: &mut Case<'_>) {
     for handle in block.handles() {
-        push_handle(alloc, &mut handles, &handle)?;
-    }
-    Ok(handles)
-}
-
-/// The handles of a payload.
-fn handles_of(alloc: Global, payload: &[u8]) -> Result<Vec<KeyedBlockHandle>> {
-    match index_block(alloc, payload, false) {
-        Ok(block) => handles_in(alloc, &block),
-        Err(fault) => Err(fault),
+        match handle.to_handle(case.alloc) {
+            Ok(handle) => case.push(list, handle),
+            Err(error) => case.refuse(error),
+        }
     }
 }
 
 /// Takes the handles of the payload as the list.
-fn take(alloc: Global, room: &mut Room) -> Result<String> {
-    room.handles = handles_of(alloc, room.payload.as_slice())?;
-    Ok(format!(in alloc; "{} handles", room.handles.len())?)
+fn take(room: &mut Room, case: &mut Case<'_>) {
+    match index_block(case.alloc, room.payload.as_slice(), false) {
+        Ok(block) => {
+            room.handles.clear();
+            push_handles(&mut room.handles, &block, case);
+            case.put_count(room.handles.len(), " handles");
+        }
+        Err(fault) => case.note(fault),
+    }
 }
 
 /// Performs a command, if it is one on iterators over index blocks.
-pub fn perform(
-    alloc: Global,
-    room: &mut Room,
-    name: &str,
-    words: &[&str],
-) -> Result<Option<String>> {
-    let answer = match name {
-        "walk_index" => walks(alloc, room, words),
-        "steps_index" => steps(alloc, room, words),
-        "between" => between(alloc, room, words),
-        "handles_of" => handles(alloc, room),
-        "take_handles" => take(alloc, room),
-        _ => return Ok(None),
-    };
-    Ok(Some(answer?))
+pub fn perform(room: &mut Room, name: &str, case: &mut Case<'_>) -> bool {
+    match name {
+        "walk_index" => {
+            let words = case.repeated();
+            walks(room, words.as_slice(), case);
+        }
+        "steps_index" => {
+            let words = case.repeated();
+            steps(room, words.as_slice(), case);
+        }
+        "between" => between(room, case),
+        "handles_of" => handles(room, case),
+        "take_handles" => take(room, case),
+        _ => return false,
+    }
+    true
 }

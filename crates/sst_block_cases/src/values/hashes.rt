@@ -1,7 +1,7 @@
 //! Commands on hash functions and checksums.
 
+use crate::case::Case;
 use crate::fault::{Fault, Result};
-use crate::words::{bytes_of, number_of};
 use sst_base::{BlockHash, Checksum};
 use std::alloc::Global;
 
@@ -26,23 +26,21 @@ fn continued<H: BlockHash>(bytes: &[u8]) -> usize {
     count
 }
 
-/// The hashes of bytes, of 64 and of 128 bits, and at how many places they are continued.
-fn hashes_of<H: BlockHash>(alloc: Global, bytes: &[u8]) -> Result<String> {
-    let (short, long) = (H::hash64(bytes), H::hash128(bytes));
-    let (stream, count) = (in_pieces::<H>(bytes), continued::<H>(bytes));
-    if stream == long {
-        return Ok(format!(in alloc; "{short} {long}, continued at {count}")?);
-    }
-    Ok(format!(in alloc; "{short} {long}, in pieces {stream}, continued at {count}")?)
-}
-
 /// The hashes of bytes, of 64 and of 128 bits, and at how many places they are continued: BYTES.
-fn hash<H: BlockHash>(alloc: Global, words: &[&str]) -> Result<String> {
-    let [bytes] = words else {
-        return Err(Fault::Word);
-    };
-    let bytes = bytes_of(alloc, bytes)?;
-    hashes_of::<H>(alloc, bytes.as_slice())
+fn hash<H: BlockHash>(case: &mut Case<'_>) {
+    let bytes = case.bytes();
+    if !case.ends() {
+        return;
+    }
+    let long = H::hash128(bytes.as_slice());
+    case.put_number(H::hash64(bytes.as_slice()));
+    case.put(" ");
+    case.put_display(&long);
+    if in_pieces::<H>(bytes.as_slice()) != long {
+        case.put(", others in pieces");
+    }
+    case.put(", continued at ");
+    case.put_count(continued::<H>(bytes.as_slice()), "");
 }
 
 /// The greatest length of a pattern.
@@ -60,44 +58,49 @@ fn pattern_of(alloc: Global, len: u64) -> Result<Vec<u8>> {
 }
 
 /// The hashes of bytes in hex, of 64 and of 128 bits.
-fn hex_hashes_of<H: BlockHash>(alloc: Global, bytes: &[u8]) -> Result<String> {
-    let (short, long) = (H::hash64(bytes), H::hash128(bytes));
-    let stream = in_pieces::<H>(bytes);
-    if stream == long {
-        return Ok(format!(in alloc; "{short:016x} {long:032x}")?);
+fn put_hashes<H: BlockHash>(bytes: &[u8], case: &mut Case<'_>) {
+    let long = H::hash128(bytes);
+    case.put_hex(H::hash64(bytes));
+    case.put(" ");
+    case.put_hex((long >> 64) as u64);
+    case.put_hex((long % (1 << 64)) as u64);
+    if in_pieces::<H>(bytes) != long {
+        case.put(", others in pieces");
     }
-    Ok(format!(in alloc; "{short:016x} {long:032x}, in pieces {stream:032x}")?)
 }
 
 /// The hashes of the first bytes of a pattern in hex, of 64 and of 128 bits: LENGTH.
-fn pattern<H: BlockHash>(alloc: Global, words: &[&str]) -> Result<String> {
-    let [len] = words else {
-        return Err(Fault::Word);
-    };
-    let bytes = pattern_of(alloc, number_of(len)?)?;
-    hex_hashes_of::<H>(alloc, bytes.as_slice())
+fn pattern<H: BlockHash>(case: &mut Case<'_>) {
+    let len = case.number();
+    if !case.ends() {
+        return;
+    }
+    match pattern_of(case.alloc, len) {
+        Ok(bytes) => put_hashes::<H>(bytes.as_slice(), case),
+        Err(fault) => case.note(fault),
+    }
 }
 
 /// How a checksum prints, and its number: NUMBER.
-fn checksum(alloc: Global, words: &[&str]) -> Result<String> {
-    let [number] = words else {
-        return Err(Fault::Word);
-    };
-    let number = match number.parse::<u128>() {
-        Ok(number) => number,
-        Err(_) => return Err(Fault::Word),
-    };
-    let checksum = Checksum::from_raw(number);
-    Ok(format!(in alloc; "{checksum} of {}", checksum.into_u128())?)
+fn checksum(case: &mut Case<'_>) {
+    match case.word().parse::<u128>() {
+        Ok(number) if case.ends() => {
+            let checksum = Checksum::from_raw(number);
+            case.put_display(&checksum);
+            case.put(" of ");
+            case.put_display(&checksum.into_u128());
+        }
+        _ => case.note(Fault::Word),
+    }
 }
 
 /// Performs a command, if it is one on hashes.
-pub fn perform<H: BlockHash>(alloc: Global, name: &str, words: &[&str]) -> Result<Option<String>> {
-    let answer = match name {
-        "hash" => hash::<H>(alloc, words),
-        "pattern" => pattern::<H>(alloc, words),
-        "checksum" => checksum(alloc, words),
-        _ => return Ok(None),
-    };
-    Ok(Some(answer?))
+pub fn perform<H: BlockHash>(name: &str, case: &mut Case<'_>) -> bool {
+    match name {
+        "hash" => hash::<H>(case),
+        "pattern" => pattern::<H>(case),
+        "checksum" => checksum(case),
+        _ => return false,
+    }
+    true
 }

@@ -1,26 +1,27 @@
 //! Commands on keys and entries: how they compare, and how they print.
 
+use crate::case::Case;
 use crate::fault::{Fault, Result};
-use crate::words::{entries_of, entry_of, word_of};
 use sst_base::table::block::BlockType;
 use sst_base::{
-    Block, Checksum, Header, History, InternalKey, InternalValue, Slice, Steps, ValueType,
+    Block, Checksum, Error, Header, History, InternalKey, InternalValue, Slice, Steps, ValueType,
 };
 use std::alloc::Global;
 use std::mem::size_of;
 
 /// How two keys compare, and whether they are equal.
-fn compared(alloc: Global, left: &InternalKey, right: &InternalKey) -> Result<String> {
-    let (order, same) = (left.cmp(right), left == right);
-    Ok(format!(in alloc; "{order:?}, equal {same}")?)
+fn put_order(left: &InternalKey, right: &InternalKey, case: &mut Case<'_>) {
+    case.put_debug(&left.cmp(right));
+    case.put(", equal ");
+    case.put_truth(left == right);
 }
 
 /// How the keys of two entries compare, and whether they are equal: ENTRY ENTRY.
-fn keys(alloc: Global, words: &[&str]) -> Result<String> {
-    let entries = entries_of(alloc, words)?;
+fn keys(case: &mut Case<'_>) {
+    let entries = case.entries();
     match entries.as_slice() {
-        [left, right] => compared(alloc, left.key(), right.key()),
-        _ => Err(Fault::Word),
+        [left, right] => put_order(left.key(), right.key(), case),
+        _ => case.note(Fault::Word),
     }
 }
 
@@ -39,58 +40,54 @@ fn made(alloc: Global, entry: &InternalValue) -> Result<InternalValue> {
     }
 }
 
-/// The entry of a word, made by the constructor of its type.
-fn made_of(alloc: Global, word: &str) -> Result<InternalValue> {
-    match entry_of(alloc, word) {
-        Ok(entry) => made(alloc, &entry),
-        Err(fault) => Err(fault),
-    }
-}
-
-/// How an entry prints.
-fn printed(alloc: Global, entry: &InternalValue) -> Result<String> {
-    Ok(format!(in alloc; "{entry:?}")?)
-}
-
-/// How the clone of an entry prints.
-fn text_of_clone(alloc: Global, entry: &InternalValue) -> Result<String> {
-    let copy = entry.clone()?;
-    printed(alloc, &copy)
-}
-
 /// How the clone of an entry prints, its word, and whether it is a tombstone.
-fn text_of(alloc: Global, entry: &InternalValue) -> Result<String> {
-    let (text, word) = (text_of_clone(alloc, entry)?, word_of(alloc, entry)?);
-    let dead = entry.is_tombstone();
-    Ok(format!(in alloc; "{text}, {word}, tombstone {dead}")?)
+fn put_clone(entry: &InternalValue, case: &mut Case<'_>) {
+    let copy: std::result::Result<_, _> = entry.clone();
+    match copy {
+        Ok(copy) => case.put_debug(&copy),
+        Err(_) => case.refuse(Error::Memory),
+    }
+    case.put(", ");
+    case.put_entry(entry);
+    case.put(", tombstone ");
+    case.put_truth(entry.is_tombstone());
 }
 
 /// How an entry prints, made by the constructor of its type, and its clone, and whether it is a
 /// tombstone: ENTRY.
-fn print(alloc: Global, words: &[&str]) -> Result<String> {
-    let [word] = words else {
-        return Err(Fault::Word);
+fn print(case: &mut Case<'_>) {
+    let word = case.word();
+    let Some(entry) = case.entry_in(word) else {
+        return;
     };
-    let entry = made_of(alloc, word)?;
-    text_of(alloc, &entry)
+    match made(case.alloc, &entry) {
+        Ok(entry) => put_clone(&entry, case),
+        Err(fault) => case.note(fault),
+    }
 }
 
 /// The parts of a block, of which this is to be the header.
-fn text_of_block(alloc: Global, block: &Block, header: &Header) -> Result<String> {
-    let (same, abc) = (*block.header() == *header, block.data().eq_bytes(b"abc"));
-    Ok(format!(in alloc; "header {same}, abc {abc}, size {}", block.size())?)
+fn put_block(block: &Block, header: &Header, case: &mut Case<'_>) {
+    case.put("header ");
+    case.put_truth(*block.header() == *header);
+    case.put(", abc ");
+    case.put_truth(block.data().eq_bytes(b"abc"));
+    case.put(", size ");
+    case.put_number(u64::from(block.size()));
 }
 
 /// The parts of a block of a header and the payload `abc`.
-fn block(alloc: Global) -> Result<String> {
+fn block(case: &mut Case<'_>) {
     let header = Header {
         block_type: BlockType::Data,
         checksum: Checksum::from_raw(294),
         data_length: 3,
         uncompressed_length: 3,
     };
-    let block = Block::from_parts(header, Slice::new(alloc, b"abc")?);
-    text_of_block(alloc, &block, &header)
+    match Slice::new(case.alloc, b"abc") {
+        Ok(abc) => put_block(&Block::from_parts(header, abc), &header, case),
+        Err(error) => case.refuse(error),
+    }
 }
 
 /// Counts, and notes what was seen.
@@ -106,20 +103,21 @@ fn count() {
 }
 
 /// The sizes of counters, of a history, and of a byte string; what is counted takes no memory.
-fn sizes(alloc: Global) -> Result<String> {
+fn sizes(case: &mut Case<'_>) {
     count();
-    let (counters, history) = (size_of::<Steps>(), size_of::<History<u64>>());
-    Ok(format!(in alloc; "{counters} {history} {}", size_of::<Slice>())?)
+    case.put_count(size_of::<Steps>(), " ");
+    case.put_count(size_of::<History<u64>>(), " ");
+    case.put_count(size_of::<Slice>(), "");
 }
 
 /// Performs a command, if it is one on keys and entries.
-pub fn perform(alloc: Global, name: &str, words: &[&str]) -> Result<Option<String>> {
-    let answer = match name {
-        "keys" => keys(alloc, words),
-        "print" => print(alloc, words),
-        "block" => block(alloc),
-        "sizes" => sizes(alloc),
-        _ => return Ok(None),
-    };
-    Ok(Some(answer?))
+pub fn perform(name: &str, case: &mut Case<'_>) -> bool {
+    match name {
+        "keys" => keys(case),
+        "print" => print(case),
+        "block" => block(case),
+        "sizes" => sizes(case),
+        _ => return false,
+    }
+    true
 }

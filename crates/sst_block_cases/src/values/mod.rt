@@ -1,7 +1,7 @@
 //! The commands of cases on numbers, byte strings, keys and hashes.
 //!
-//! Each module has a function `perform`, which returns the result of a command, or `None` where the
-//! command is none of the module's.
+//! Each module has a function `perform`, which returns whether a command is one of the module's,
+//! and then has performed it.
 mod hashes;
 mod indexes;
 mod keys;
@@ -9,31 +9,15 @@ mod numbers;
 mod peekable;
 mod slices;
 
-use crate::fault::Result;
+use crate::case::Case;
 use sst_base::BlockHash;
-use std::alloc::Global;
-
-/// Performs a command, if it is one on numbers, byte strings or keys.
-fn compare(alloc: Global, name: &str, words: &[&str]) -> Result<Option<String>> {
-    if let Some(answer) = numbers::perform(alloc, name, words)? {
-        return Ok(Some(answer));
-    }
-    if let Some(answer) = keys::perform(alloc, name, words)? {
-        return Ok(Some(answer));
-    }
-    if let Some(answer) = slices::perform(alloc, name, words)? {
-        return Ok(Some(answer));
-    }
-    peekable::perform(alloc, name, words)
-}
 
 /// Performs a command, if it is one on values.
-pub fn perform<H: BlockHash>(alloc: Global, name: &str, words: &[&str]) -> Result<Option<String>> {
-    if let Some(answer) = compare(alloc, name, words)? {
-        return Ok(Some(answer));
-    }
-    if let Some(answer) = hashes::perform::<H>(alloc, name, words)? {
-        return Ok(Some(answer));
-    }
-    indexes::perform::<H>(alloc, name, words)
+pub fn perform<H: BlockHash>(name: &str, case: &mut Case<'_>) -> bool {
+    numbers::perform(name, case)
+        || keys::perform(name, case)
+        || slices::perform(name, case)
+        || peekable::perform(name, case)
+        || hashes::perform::<H>(name, case)
+        || indexes::perform::<H>(name, case)
 }

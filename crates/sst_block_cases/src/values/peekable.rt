@@ -2,10 +2,10 @@
 ghost use Rattle.std.specs.Prelude.{refl};
 ghost use Rattle.std.specs.Iterator.{YieldsFirst, YieldsLast, item_count};
 
-use crate::fault::{Fault, Result};
-use crate::words::{Row, alike, bytes_of, push_small, small_of};
+use crate::case::Case;
+use crate::fault::Fault;
+use sst_base::Error;
 use sst_base::double_ended_peekable::{DoubleEndedPeekable, DoubleEndedPeekableExt, ListIterator};
-use std::alloc::Global;
 
 /// An iterator that items can be added to, also after it has ended.
 #[derive(Drop)]
@@ -74,103 +74,107 @@ impl Byte for &u8 {
     }
 }
 
-/// The text of an item, or `none`.
-fn text_of<T: Byte>(alloc: Global, item: Option<&T>) -> Result<String> {
+/// Adds an item, or `none`.
+fn put_item<T: Byte>(item: Option<&T>, case: &mut Case<'_>) {
     match item {
-        Some(item) => Ok(format!(in alloc; "{}", item.byte())?),
-        None => Ok(String::from_str(alloc, "none")?),
+        Some(item) => case.put_number(u64::from(item.byte())),
+        None => case.put("none"),
     }
 }
 
 /// Takes an item if it is the byte of a word.
 fn step_if<T: Byte, I: ListIterator<Item = T>>(
-    alloc: Global,
     it: &mut DoubleEndedPeekable<T, I>,
     byte: &str,
-) -> Result<String> {
-    let wanted = small_of(byte)?;
-    text_of(alloc, it.next_if(|item| item.byte() == wanted).as_ref())
+    case: &mut Case<'_>,
+) {
+    let wanted = case.number_in(byte);
+    put_item(
+        it.next_if(|item| u64::from(item.byte()) == wanted).as_ref(),
+        case,
+    );
 }
 
 /// Makes a call: one by its name, or `if:` and the byte for which alone an item is taken.
 fn step<T: Byte, I: ListIterator<Item = T>>(
-    alloc: Global,
     it: &mut DoubleEndedPeekable<T, I>,
     word: &str,
-) -> Result<String> {
+    case: &mut Case<'_>,
+) {
     match word {
-        "peek" => text_of(alloc, it.peek()),
-        "peek_back" => text_of(alloc, it.peek_back()),
-        "next" => text_of(alloc, it.next().as_ref()),
-        "back" => text_of(alloc, it.next_back().as_ref()),
+        "peek" => put_item(it.peek(), case),
+        "peek_back" => put_item(it.peek_back(), case),
+        "next" => put_item(it.next().as_ref(), case),
+        "back" => put_item(it.next_back().as_ref(), case),
         _ => match word.split_once(':') {
-            Some(("if", byte)) => step_if(alloc, it, byte),
-            _ => Err(Fault::Word),
+            Some(("if", byte)) => step_if(it, byte, case),
+            _ => case.note(Fault::Word),
         },
     }
 }
 
 /// Makes calls of a peekable iterator.
 fn steps<T: Byte, I: ListIterator<Item = T>>(
-    alloc: Global,
     mut it: DoubleEndedPeekable<T, I>,
     words: &[&str],
-) -> Result<String> {
-    let mut row = Row::new(alloc);
+    case: &mut Case<'_>,
+) {
     for word in words {
-        row.add(step(alloc, &mut it, word));
+        case.space();
+        step(&mut it, word, case);
     }
-    row.text()
 }
 
 /// Calls of a peekable iterator that owns bytes.
-fn by_owner(alloc: Global, bytes: &[u8], words: &[&str]) -> Result<String> {
-    let owned = bytes.to_vec(alloc)?.into_iter();
-    steps(alloc, owned.double_ended_peekable(), words)
+fn by_owner(bytes: &[u8], words: &[&str], case: &mut Case<'_>) {
+    match bytes.to_vec(case.alloc) {
+        Ok(bytes) => steps(bytes.into_iter().double_ended_peekable(), words, case),
+        Err(_) => case.refuse(Error::Memory),
+    }
 }
 
-/// Calls of peekable iterators over bytes: one that borrows them, one that owns them, and one that
-/// is wrapped again.
-fn by_each(alloc: Global, bytes: &[u8], words: &[&str]) -> Result<String> {
-    let borrowed = steps(alloc, bytes.iter().double_ended_peekable(), words);
+/// Calls of peekable iterators over bytes: one that borrows them, one that is wrapped again, and
+/// one that owns them.
+fn by_each(bytes: &[u8], words: &[&str], case: &mut Case<'_>) {
+    let mut ways = case.ways();
+    steps(bytes.iter().double_ended_peekable(), words, case);
+    case.other(&mut ways, "wrapped again");
     let again = bytes.iter().double_ended_peekable();
-    let again = steps(alloc, again.double_ended_peekable(), words);
-    let all = alike(alloc, borrowed, "wrapped again", again);
-    alike(alloc, all, "by an owner", by_owner(alloc, bytes, words))
+    steps(again.double_ended_peekable(), words, case);
+    case.agree(&mut ways);
+    case.other(&mut ways, "by an owner");
+    by_owner(bytes, words, case);
+    case.agree(&mut ways);
 }
 
 /// Calls of peekable iterators over bytes, of each kind: BYTES STEP ..
-fn peekable(alloc: Global, words: &[&str]) -> Result<String> {
-    let Some((bytes, words)) = words.split_first() else {
-        return Err(Fault::Word);
-    };
-    let bytes = bytes_of(alloc, bytes)?;
-    by_each(alloc, bytes.as_slice(), words)
+fn peekable(case: &mut Case<'_>) {
+    let bytes = case.bytes();
+    let words = case.rest();
+    by_each(bytes.as_slice(), words, case);
 }
 
 /// Calls of a peekable iterator over a queue, to which `add:` adds a byte: BYTES STEP ..
-fn over_queue(alloc: Global, words: &[&str]) -> Result<String> {
-    let Some((items, words)) = words.split_first() else {
-        return Err(Fault::Word);
-    };
-    let items = bytes_of(alloc, items)?;
+fn over_queue(case: &mut Case<'_>) {
+    let items = case.bytes();
     let mut it = GrowingQueue { items }.double_ended_peekable();
-    let mut row = Row::new(alloc);
-    for word in words {
+    for word in case.rest() {
         match word.split_once(':') {
-            Some(("add", byte)) => row.note(push_small(&mut it.inner_mut().items, byte)),
-            _ => row.add(step(alloc, &mut it, word)),
+            Some(("add", byte)) => case.push_small(&mut it.inner_mut().items, byte),
+            _ => {
+                case.space();
+                step(&mut it, word, case);
+            }
         }
     }
-    row.text()
 }
 
 /// Performs a command, if it is one on peekable iterators.
-pub fn perform(alloc: Global, name: &str, words: &[&str]) -> Result<Option<String>> {
-    let answer = match name {
-        "peekable" => peekable(alloc, words),
-        "queue" => over_queue(alloc, words),
-        _ => return Ok(None),
-    };
-    Ok(Some(answer?))
+pub fn perform(name: &str, case: &mut Case<'_>) -> bool {
+    match name {
+        "peekable" => peekable(case),
+        "queue" => over_queue(case),
+        _ => return false,
+    }
+    true
 }

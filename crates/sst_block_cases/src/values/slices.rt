@@ -1,171 +1,175 @@
 //! Commands on byte strings: each call that makes one.
 
-use crate::fault::{Fault, Result};
-use crate::words::{alike, all_bytes_of, bytes_of, hex_of, number_of, slice_of};
+use crate::case::Case;
+use crate::fault::Fault;
 use bytes::Bytes;
-use sst_base::Slice;
+use sst_base::{Result, Slice};
 use std::alloc::Global;
 
-/// Whether a slice of the same bytes that is new is equal to a slice.
-fn is_equal_to_new(alloc: Global, slice: &Slice) -> Result<bool> {
-    Ok(Slice::new(alloc, slice.as_slice())? == *slice)
+/// Adds a slice: its bytes, its length, whether it is empty, and whether it is equal to a new one
+/// of its bytes.
+fn put_slice(slice: &Slice, case: &mut Case<'_>) {
+    case.put_bytes(slice.as_slice());
+    case.put(", ");
+    case.put_count(slice.len(), " bytes, empty ");
+    case.put_truth(slice.is_empty());
+    case.put(", equal ");
+    match Slice::new(case.alloc, slice.as_slice()) {
+        Ok(new) => case.put_truth(new == *slice),
+        Err(error) => case.refuse(error),
+    }
 }
 
-/// The text of a slice: its bytes, its length, whether it is empty, and whether it is equal to a
-/// new one of its bytes.
-fn text_of(alloc: Global, slice: &Slice) -> Result<String> {
-    let (count, empty) = (slice.len(), slice.is_empty());
-    let same = is_equal_to_new(alloc, slice)?;
-    let bytes = hex_of(alloc, slice.as_slice())?;
-    Ok(format!(in alloc; "{bytes}, {count} bytes, empty {empty}, equal {same}")?)
+/// Adds a slice, if it could be made.
+fn put_made(slice: Result<Slice>, case: &mut Case<'_>) {
+    match slice {
+        Ok(slice) => put_slice(&slice, case),
+        Err(error) => case.refuse(error),
+    }
 }
 
 /// A slice of the bytes that another one gives.
-fn from_slice(alloc: Global, slice: &Slice) -> sst_base::Result<Slice> {
+fn from_slice(alloc: Global, slice: &Slice) -> Result<Slice> {
     Slice::from_bytes(alloc, slice.to_bytes(alloc)?)
 }
 
-/// A slice that owns bytes, by a call of a name.
-fn owned(alloc: Global, name: &str, bytes: &[u8]) -> sst_base::Result<Slice> {
-    match name {
-        "from_vec" => Slice::from_vec(bytes.to_vec(alloc)?),
-        "from_bytes" => Slice::from_bytes(alloc, Bytes::copy_from_slice(alloc, bytes)?),
-        "to_bytes" => from_slice(alloc, &Slice::new(alloc, bytes)?),
-        _ => Slice::collect_bytes(alloc, bytes.iter().copied()),
+/// The calls that make a slice of bytes, or of text.
+#[derive(Clone, Copy)]
+enum Call {
+    New,
+    Clone,
+    Whole,
+    FromText,
+    FromString,
+    FromVec,
+    FromBytes,
+    ToBytes,
+    CollectBytes,
+}
+
+/// A slice that is made of another one.
+fn made_of(alloc: Global, call: Call, slice: &Slice) -> Result<Slice> {
+    match call {
+        Call::Clone => Ok(slice.clone()?),
+        Call::Whole => slice.slice(..),
+        _ => from_slice(alloc, slice),
     }
 }
 
-/// A slice of text, by a call of a name.
-fn from_text(alloc: Global, name: &str, text: &str) -> sst_base::Result<Slice> {
-    if name == "from_text" {
-        return Slice::from_text(alloc, text);
-    }
-    Slice::from_string(String::from_str(alloc, text)?)
-}
-
-/// A slice of bytes, by a call of a name.
-fn made(alloc: Global, name: &str, bytes: &[u8]) -> sst_base::Result<Slice> {
-    match name {
-        "new" => Slice::new(alloc, bytes),
-        "clone" => Ok(Slice::new(alloc, bytes)?.clone()?),
-        "whole" => Slice::new(alloc, bytes)?.slice(..),
-        _ => owned(alloc, name, bytes),
+/// A slice of bytes that are text.
+fn from_text(alloc: Global, call: Call, text: &str) -> Result<Slice> {
+    match call {
+        Call::FromText => Slice::from_text(alloc, text),
+        _ => Slice::from_string(String::from_str(alloc, text)?),
     }
 }
 
-/// The text of a slice, if it could be made.
-fn text_of_made(alloc: Global, slice: sst_base::Result<Slice>) -> Result<String> {
-    let slice = slice?;
-    text_of(alloc, &slice)
-}
-
-/// The text of a slice that a call of a name makes of bytes.
-fn text_by(alloc: Global, name: &str, bytes: &[u8]) -> Result<String> {
-    if name != "from_text" && name != "from_string" {
-        return text_of_made(alloc, made(alloc, name, bytes));
-    }
-    match std::str::from_utf8(bytes) {
-        Ok(text) => text_of_made(alloc, from_text(alloc, name, text)),
-        Err(_) => Err(Fault::Word),
+/// A slice of bytes, by a call.
+fn made(alloc: Global, call: Call, bytes: &[u8], text: &str) -> Result<Slice> {
+    match call {
+        Call::New => Slice::new(alloc, bytes),
+        Call::FromText | Call::FromString => from_text(alloc, call, text),
+        Call::FromVec => Slice::from_vec(bytes.to_vec(alloc)?),
+        Call::FromBytes => Slice::from_bytes(alloc, Bytes::copy_from_slice(alloc, bytes)?),
+        Call::CollectBytes => Slice::collect_bytes(alloc, bytes.iter().copied()),
+        _ => made_of(alloc, call, &Slice::new(alloc, bytes)?),
     }
 }
 
 /// The calls that make a slice of bytes, beside `new`.
-const CALLS: [&str; 8] = [
-    "clone",
-    "whole",
-    "from_text",
-    "from_string",
-    "from_vec",
-    "from_bytes",
-    "to_bytes",
-    "collect_bytes",
+const CALLS: [(&str, Call); 8] = [
+    ("clone", Call::Clone),
+    ("whole", Call::Whole),
+    ("from_text", Call::FromText),
+    ("from_string", Call::FromString),
+    ("from_vec", Call::FromVec),
+    ("from_bytes", Call::FromBytes),
+    ("to_bytes", Call::ToBytes),
+    ("collect_bytes", Call::CollectBytes),
 ];
 
-/// A slice of bytes, by each call that makes one.
-fn by_each_call(alloc: Global, bytes: &[u8]) -> Result<String> {
-    let mut text = text_by(alloc, "new", bytes);
-    for name in &CALLS {
-        text = alike(alloc, text, name, text_by(alloc, name, bytes));
+/// A slice of bytes that are text, by each call that makes one.
+fn by_each_call(bytes: &[u8], text: &str, case: &mut Case<'_>) {
+    let mut ways = case.ways();
+    put_made(made(case.alloc, Call::New, bytes, text), case);
+    for (name, call) in &CALLS {
+        case.other(&mut ways, name);
+        put_made(made(case.alloc, *call, bytes, text), case);
+        case.agree(&mut ways);
     }
-    text
 }
 
 /// A slice, by each call that makes one of bytes: BYTES, which are text.
-fn slice(alloc: Global, words: &[&str]) -> Result<String> {
-    let [bytes] = words else {
-        return Err(Fault::Word);
-    };
-    let bytes = bytes_of(alloc, bytes)?;
-    by_each_call(alloc, bytes.as_slice())
+fn slice(case: &mut Case<'_>) {
+    let bytes = case.bytes();
+    if !case.ends() {
+        return;
+    }
+    match std::str::from_utf8(bytes.as_slice()) {
+        Ok(text) => by_each_call(bytes.as_slice(), text, case),
+        Err(_) => case.note(Fault::Word),
+    }
 }
 
 /// A slice of two byte strings joined: BYTES BYTES.
-fn fused(alloc: Global, words: &[&str]) -> Result<String> {
-    let parts = all_bytes_of(alloc, words)?;
-    match parts.as_slice() {
-        [left, right] => {
-            text_of_made(
-                alloc,
-                Slice::fused(alloc, left.as_slice(), right.as_slice()),
-            )
-        }
-        _ => Err(Fault::Word),
+fn fused(case: &mut Case<'_>) {
+    let (left, right) = (case.bytes(), case.bytes());
+    if case.ends() {
+        put_made(
+            Slice::fused(case.alloc, left.as_slice(), right.as_slice()),
+            case,
+        );
     }
 }
 
 /// A part of a slice, from an offset up to another, also by the open range if it begins or ends
 /// where the slice does.
-fn part_of(alloc: Global, whole: &Slice, start: usize, end: usize) -> Result<String> {
+fn put_part(whole: &Slice, start: usize, end: usize, case: &mut Case<'_>) {
     if start > end || end > whole.len() {
-        return Err(Fault::Word);
+        case.note(Fault::Word);
+        return;
     }
-    let text = text_of_made(alloc, whole.slice(start..end));
+    let mut ways = case.ways();
+    put_made(whole.slice(start..end), case);
     if start == 0 {
-        return alike(
-            alloc,
-            text,
-            "up to",
-            text_of_made(alloc, whole.slice(..end)),
-        );
+        case.other(&mut ways, "up to");
+        put_made(whole.slice(..end), case);
+        case.agree(&mut ways);
+    } else if end == whole.len() {
+        case.other(&mut ways, "from");
+        put_made(whole.slice(start..), case);
+        case.agree(&mut ways);
     }
-    if end == whole.len() {
-        return alike(
-            alloc,
-            text,
-            "from",
-            text_of_made(alloc, whole.slice(start..)),
-        );
-    }
-    text
 }
 
 /// A part of a slice, from an offset up to another: BYTES START END.
-fn part(alloc: Global, words: &[&str]) -> Result<String> {
-    let [bytes, start, end] = words else {
-        return Err(Fault::Word);
-    };
-    let (start, end) = (number_of(start)? as usize, number_of(end)? as usize);
-    let whole = slice_of(alloc, bytes)?;
-    part_of(alloc, &whole, start, end)
+fn part(case: &mut Case<'_>) {
+    let word = case.word();
+    let (start, end) = (case.number() as usize, case.number() as usize);
+    if let Some(whole) = case.slice_in(word)
+        && case.ends()
+    {
+        put_part(&whole, start, end, case);
+    }
 }
 
 /// Slices of arrays and of nothing.
-fn arrays(alloc: Global) -> Result<String> {
-    let empty = text_of(alloc, &Slice::empty(alloc))?;
-    let two = text_of_made(alloc, Slice::from_array(alloc, *b"ab"))?;
-    let fifty = text_of_made(alloc, Slice::from_array(alloc, [7; 50]))?;
-    Ok(format!(in alloc; "{empty}; {two}; {fifty}")?)
+fn arrays(case: &mut Case<'_>) {
+    put_slice(&Slice::empty(case.alloc), case);
+    case.put("; ");
+    put_made(Slice::from_array(case.alloc, *b"ab"), case);
+    case.put("; ");
+    put_made(Slice::from_array(case.alloc, [7; 50]), case);
 }
 
 /// Performs a command, if it is one on slices.
-pub fn perform(alloc: Global, name: &str, words: &[&str]) -> Result<Option<String>> {
-    let answer = match name {
-        "slice" => slice(alloc, words),
-        "fused" => fused(alloc, words),
-        "part" => part(alloc, words),
-        "arrays" => arrays(alloc),
-        _ => return Ok(None),
-    };
-    Ok(Some(answer?))
+pub fn perform(name: &str, case: &mut Case<'_>) -> bool {
+    match name {
+        "slice" => slice(case),
+        "fused" => fused(case),
+        "part" => part(case),
+        "arrays" => arrays(case),
+        _ => return false,
+    }
+    true
 }

@@ -1,14 +1,12 @@
 //! Merges, snapshots and compactions of sources in memory.
 
-use super::sources::{backs_of, merge_of, merged, merged_back, sources_of};
-use super::{drained, or_none, taken};
-use sst_base::{InternalValue, Slice};
+use super::sources::{backs_of, merge_of, put_merged, put_merged_back, sources_of};
+use super::{drain, put_none, taken};
+use sst_base::{Error, InternalValue, Slice};
+use sst_block_cases::case::Case;
 use sst_block_cases::fault::{Fault, Result, kept};
 use sst_block_cases::room::Room;
-use sst_block_cases::texts::agreed;
-use sst_block_cases::words::{bytes_of, number_of, pair_of, push_word, word_of, word_of_found};
 use sst_merge::{Bottom, Compact, Merge, OlderRanges, Reversed, Snapshot, Source};
-use std::alloc::Global;
 
 /// The number of the entries of all sources.
 fn total_of(room: &Room) -> usize {
@@ -19,253 +17,279 @@ fn total_of(room: &Room) -> usize {
     total
 }
 
-/// Passes the first version of a merge, as it is shown.
+/// Adds the first version of a merge, or `none`.
+fn put_first<I: Source<InternalValue> + Drop>(
+    merge: &Merge<InternalValue, I>,
+    case: &mut Case<'_>,
+) {
+    match merge.peek() {
+        Some(entry) => case.put_entry(entry),
+        None => case.put("none"),
+    }
+}
+
+/// Passes the first version of a merge. Returns whether there is one.
 fn pass<I: Source<InternalValue> + Drop>(
-    alloc: Global,
     merge: &mut Merge<InternalValue, I>,
-    text: &mut String,
-) -> Result<()> {
-    push_word(text, word_of_found(alloc, merge.peek())?.as_str())?;
-    match merge.advance(alloc) {
-        Ok(true) => Ok(()),
-        Ok(false) => Ok(text.push_str(" not passed")?),
-        Err(error) => Err(kept(error, merge.advance(alloc).err())),
+    case: &mut Case<'_>,
+) -> bool {
+    match merge.advance(case.alloc) {
+        Ok(passed) => passed,
+        Err(error) => {
+            case.note(kept(error, merge.advance(case.alloc).err()));
+            false
+        }
     }
 }
 
 /// The merge of this many versions, each passed as it is shown.
-fn passed<I: Source<InternalValue> + Drop>(
-    alloc: Global,
+fn put_passed<I: Source<InternalValue> + Drop>(
     merge: &mut Merge<InternalValue, I>,
     total: usize,
-) -> Result<String> {
-    let mut text = String::new(alloc);
+    case: &mut Case<'_>,
+) {
     for _ in 0..total {
-        pass(alloc, merge, &mut text)?;
+        case.space();
+        put_first(merge, case);
+        if !pass(merge, case) {
+            case.put(" not passed");
+        }
     }
-    if merge.peek().is_some() || merge.advance(alloc)? {
-        text.push_str(" and one more")?;
+    if merge.peek().is_some() || pass(merge, case) {
+        case.put(" and one more");
     }
-    or_none(alloc, text)
 }
 
-/// Returns whether an entry that may be found has this word.
-fn has_word(alloc: Global, found: Option<&InternalValue>, word: &str) -> Result<bool> {
-    let found = word_of_found(alloc, found)?;
-    Ok(found.as_str() == word)
-}
-
-/// Takes the first version of a merge. Returns whether it has this word.
-fn takes<I: Source<InternalValue> + Drop>(
-    alloc: Global,
+/// Takes the first version of a merge, and adds its word. Returns whether there is one.
+fn put_first_taken<I: Source<InternalValue> + Drop>(
     merge: &mut Merge<InternalValue, I>,
-    word: &str,
-) -> Result<bool> {
-    let version = taken(alloc, merge)?;
-    has_word(alloc, version.as_ref(), word)
-}
-
-/// Takes the first version of a merge. Returns whether there is one.
-fn is_left<I: Source<InternalValue> + Drop>(
-    alloc: Global,
-    merge: &mut Merge<InternalValue, I>,
-) -> Result<bool> {
-    Ok(taken(alloc, merge)?.is_some())
+    case: &mut Case<'_>,
+) -> bool {
+    match taken(case.alloc, merge) {
+        Ok(Some(entry)) => {
+            case.put_entry(&entry);
+            true
+        }
+        Ok(None) => false,
+        Err(fault) => {
+            case.note(fault);
+            false
+        }
+    }
 }
 
 /// Passes the first version of a merge at every third turn, and else takes it.
 fn turn_on<I: Source<InternalValue> + Drop>(
-    alloc: Global,
     merge: &mut Merge<InternalValue, I>,
     turn: usize,
-    text: &mut String,
-) -> Result<()> {
-    let word = word_of_found(alloc, merge.peek())?;
+    case: &mut Case<'_>,
+) {
     if turn % 3 == 1 {
-        merge.advance(alloc)?;
-    } else if !takes(alloc, merge, word.as_str())? {
-        text.push_str(" not taken")?;
+        put_first(merge, case);
+        pass(merge, case);
+        return;
     }
-    push_word(text, word.as_str())
+    let mut ways = case.ways();
+    put_first(merge, case);
+    case.other(&mut ways, "taken");
+    put_first_taken(merge, case);
+    case.agree(&mut ways);
 }
 
 /// The merge of this many versions, every third one passed and the others taken.
-fn in_turn<I: Source<InternalValue> + Drop>(
-    alloc: Global,
+fn put_in_turn<I: Source<InternalValue> + Drop>(
     merge: &mut Merge<InternalValue, I>,
     total: usize,
-) -> Result<String> {
-    let mut text = String::new(alloc);
+    case: &mut Case<'_>,
+) {
     for turn in 0..total {
-        turn_on(alloc, merge, turn, &mut text)?;
+        if turn > 0 {
+            case.put(" ");
+        }
+        turn_on(merge, turn, case);
     }
-    if is_left(alloc, merge)? {
-        text.push_str(" and one more")?;
+    if put_first_taken(merge, case) {
+        case.put(" and one more");
     }
-    or_none(alloc, text)
 }
 
-/// Words from the last to the first.
-fn reversed(alloc: Global, words: &[String]) -> Result<String> {
-    let mut text = String::new(alloc);
-    for word in words.iter().rev() {
-        push_word(&mut text, word.as_str())?;
+/// Adds the word of an entry to a list.
+fn push_word(words: &mut Vec<String>, entry: &InternalValue, case: &mut Case<'_>) {
+    let start = case.mark();
+    case.put_entry(entry);
+    match String::from_str(case.alloc, case.text_from(start)) {
+        Ok(word) => case.push(words, word),
+        Err(_) => case.refuse(Error::Memory),
     }
-    or_none(alloc, text)
+    case.cut(start);
 }
 
-/// Adds the word of an entry.
-fn add_word(alloc: Global, words: &mut Vec<String>, entry: &InternalValue) -> Result<()> {
-    Ok(words.push(word_of(alloc, entry)?)?)
+/// The words of all that is left of a source from the back.
+fn words_back<I: Source<Reversed<InternalValue>>>(
+    source: &mut I,
+    words: &mut Vec<String>,
+    case: &mut Case<'_>,
+) -> Result<()> {
+    'left: while let Some(entry) = taken(case.alloc, source)? {
+        push_word(words, &entry.into_inner(), case);
+    }
+    Ok(())
 }
 
 /// All that is left of a source from the back, as the words from the first to the last.
-pub fn drained_back<I: Source<Reversed<InternalValue>>>(
-    alloc: Global,
-    source: &mut I,
-) -> Result<String> {
-    let mut words = Vec::new(alloc);
-    while let Some(entry) = taken(alloc, source)? {
-        add_word(alloc, &mut words, &entry.into_inner())?;
+pub fn drain_back<I: Source<Reversed<InternalValue>>>(source: &mut I, case: &mut Case<'_>) {
+    let (mut words, start) = (Vec::new(case.alloc), case.mark());
+    if let Err(fault) = words_back(source, &mut words, case) {
+        case.note(fault);
     }
-    reversed(alloc, words.as_slice())
+    for word in words.iter().rev() {
+        case.space();
+        case.put(word.as_str());
+    }
+    put_none(start, case);
 }
 
 /// The merge of sources of this many versions, passed or in turn.
-fn by_turns<I: Source<InternalValue> + Drop>(
-    alloc: Global,
+fn put_by_turns<I: Source<InternalValue> + Drop>(
     sources: Result<Vec<I>>,
     total: usize,
     by_passing: bool,
-) -> Result<String> {
-    let mut merge = merge_of(alloc, sources)?;
-    if by_passing {
-        passed(alloc, &mut merge, total)
-    } else {
-        in_turn(alloc, &mut merge, total)
+    case: &mut Case<'_>,
+) {
+    let start = case.mark();
+    match merge_of(case.alloc, sources) {
+        Ok(mut merge) if by_passing => put_passed(&mut merge, total, case),
+        Ok(mut merge) => put_in_turn(&mut merge, total, case),
+        Err(fault) => case.note(fault),
     }
+    put_none(start, case);
 }
 
 /// The merge of the sources, in each way.
-pub fn merge(alloc: Global, room: &Room) -> Result<String> {
-    let total = total_of(room);
-    let found = [
-        merged(alloc, sources_of(alloc, room)),
-        by_turns(alloc, sources_of(alloc, room), total, true),
-        by_turns(alloc, sources_of(alloc, room), total, false),
-        merged_back(alloc, backs_of(alloc, sources_of(alloc, room))),
-    ];
-    agreed(alloc, &found)
+pub fn merge(room: &Room, case: &mut Case<'_>) {
+    let (alloc, total) = (case.alloc, total_of(room));
+    let mut ways = case.ways();
+    put_merged(sources_of(alloc, room), case);
+    case.another(&mut ways);
+    put_by_turns(sources_of(alloc, room), total, true, case);
+    case.another(&mut ways);
+    put_by_turns(sources_of(alloc, room), total, false, case);
+    case.another(&mut ways);
+    put_merged_back(backs_of(alloc, sources_of(alloc, room)), case);
+    case.agreed(&mut ways);
 }
 
-/// Returns whether a word names the bottom level.
-pub fn level_of(word: &str) -> Result<bool> {
-    match word {
-        "above" => Ok(false),
-        "bottom" => Ok(true),
-        _ => Err(Fault::Word),
-    }
-}
-
-/// The snapshots of a word: numbers joined by commas, or `-` for none.
-pub fn snapshots_of(alloc: Global, word: &str) -> Result<Vec<u64>> {
-    let mut snapshots = Vec::new(alloc);
-    if word != "-" {
-        for number in word.split(',') {
-            snapshots.push(number_of(number)?)?;
+/// Takes a level. Returns whether it is the bottom one.
+pub fn level_of(case: &mut Case<'_>) -> bool {
+    match case.word() {
+        "above" => false,
+        "bottom" => true,
+        _ => {
+            case.note(Fault::Word);
+            false
         }
     }
-    Ok(snapshots)
 }
 
-/// The user keys of a word.
-fn keys_of(alloc: Global, word: &str) -> Result<(Slice, Slice)> {
-    let (first, last) = pair_of(word, ':')?;
-    let first = Slice::from_vec(bytes_of(alloc, first)?)?;
-    Ok((first, Slice::from_vec(bytes_of(alloc, last)?)?))
-}
-
-/// The ranges of user keys of the older tables, FIRST:LAST,..
-fn ranges_of(alloc: Global, word: &str) -> Result<OlderRanges> {
-    let mut ranges = Vec::new(alloc);
-    for range in word.split(',') {
-        ranges.push(keys_of(alloc, range)?)?;
+/// Takes snapshots: numbers joined by commas, or `-` for none.
+pub fn snapshots_of(case: &mut Case<'_>) -> Vec<u64> {
+    let (word, mut snapshots) = (case.word(), Vec::new(case.alloc));
+    if word != "-" {
+        for number in word.split(',') {
+            let number = case.number_in(number);
+            case.push(&mut snapshots, number);
+        }
     }
-    Ok(OlderRanges { ranges })
+    snapshots
+}
+
+/// Appends the range of user keys of a word, FIRST:LAST.
+fn push_range(ranges: &mut Vec<(Slice, Slice)>, word: &str, case: &mut Case<'_>) {
+    let (first, last) = case.pair_in(word, ':');
+    if let Some(first) = case.slice_in(first)
+        && let Some(last) = case.slice_in(last)
+    {
+        case.push(ranges, (first, last));
+    }
+}
+
+/// Takes the ranges of user keys of the older tables, FIRST:LAST,..
+fn ranges_of(case: &mut Case<'_>) -> OlderRanges {
+    let (word, mut ranges) = (case.word(), Vec::new(case.alloc));
+    for range in word.split(',') {
+        push_range(&mut ranges, range, case);
+    }
+    OlderRanges { ranges }
 }
 
 /// What is left of a compaction of sources.
-fn compacted<I: Source<InternalValue> + Drop, B: Bottom + Drop>(
-    alloc: Global,
+fn put_compacted<I: Source<InternalValue> + Drop, B: Bottom + Drop>(
     sources: Result<Vec<I>>,
     snapshots: Vec<u64>,
     bottom: B,
-) -> Result<String> {
-    let merge = merge_of(alloc, sources)?;
-    drained(alloc, &mut Compact::new(merge, snapshots, bottom))
-}
-
-/// What a snapshot sees of a source.
-fn seen_of<I: Source<InternalValue> + Drop>(
-    alloc: Global,
-    source: I,
-    seqno: u64,
-) -> Result<String> {
-    drained(alloc, &mut Snapshot::new(source, seqno))
+    case: &mut Case<'_>,
+) {
+    match merge_of(case.alloc, sources) {
+        Ok(merge) => drain(&mut Compact::new(merge, snapshots, bottom), case),
+        Err(fault) => case.note(fault),
+    }
 }
 
 /// What a snapshot sees of sources.
-fn seen<I: Source<InternalValue> + Drop>(
-    alloc: Global,
+fn put_seen<I: Source<InternalValue> + Drop>(
     sources: Result<Vec<I>>,
     seqno: u64,
-) -> Result<String> {
-    let merge = merge_of(alloc, sources)?;
-    seen_of(alloc, merge, seqno)
+    case: &mut Case<'_>,
+) {
+    match merge_of(case.alloc, sources) {
+        Ok(merge) => drain(&mut Snapshot::new(merge, seqno), case),
+        Err(fault) => case.note(fault),
+    }
 }
 
 /// What a snapshot sees of a compaction of sources.
-fn seen_compacted<I: Source<InternalValue> + Drop>(
-    alloc: Global,
+fn put_seen_compacted<I: Source<InternalValue> + Drop>(
     sources: Result<Vec<I>>,
     snapshots: Vec<u64>,
     bottom: bool,
     seqno: u64,
-) -> Result<String> {
-    let merge = merge_of(alloc, sources)?;
-    seen_of(alloc, Compact::new(merge, snapshots, bottom), seqno)
+    case: &mut Case<'_>,
+) {
+    match merge_of(case.alloc, sources) {
+        Ok(merge) => {
+            let compact = Compact::new(merge, snapshots, bottom);
+            drain(&mut Snapshot::new(compact, seqno), case);
+        }
+        Err(fault) => case.note(fault),
+    }
 }
 
 /// A compaction of the sources: SNAPSHOTS LEVEL, or SNAPSHOTS over RANGES of the older tables.
-pub fn compact(alloc: Global, room: &Room, words: &[&str]) -> Result<String> {
-    match words {
-        [snapshots, level] => {
-            let (snapshots, bottom) = (snapshots_of(alloc, snapshots)?, level_of(level)?);
-            compacted(alloc, sources_of(alloc, room), snapshots, bottom)
+pub fn compact(room: &Room, case: &mut Case<'_>) {
+    let snapshots = snapshots_of(case);
+    if case.takes("over") {
+        let ranges = ranges_of(case);
+        if case.ends() {
+            put_compacted(sources_of(case.alloc, room), snapshots, ranges, case);
         }
-        [snapshots, "over", ranges] => {
-            let (snapshots, bottom) = (snapshots_of(alloc, snapshots)?, ranges_of(alloc, ranges)?);
-            compacted(alloc, sources_of(alloc, room), snapshots, bottom)
-        }
-        _ => Err(Fault::Word),
+        return;
+    }
+    let bottom = level_of(case);
+    if case.ends() {
+        put_compacted(sources_of(case.alloc, room), snapshots, bottom, case);
     }
 }
 
 /// What a snapshot sees of the sources, or of a compaction of them: SEQNO, or SEQNO SNAPSHOTS
 /// LEVEL.
-pub fn snapshot(alloc: Global, room: &Room, words: &[&str]) -> Result<String> {
-    match words {
-        [seqno] => {
-            let seqno = number_of(seqno)?;
-            seen(alloc, sources_of(alloc, room), seqno)
-        }
-        [seqno, snapshots, level] => {
-            let snapshots = snapshots_of(alloc, snapshots)?;
-            let (Ok(bottom), Ok(seqno)) = (level_of(level), number_of(seqno)) else {
-                return Err(Fault::Word);
-            };
-            seen_compacted(alloc, sources_of(alloc, room), snapshots, bottom, seqno)
-        }
-        _ => Err(Fault::Word),
+pub fn snapshot(room: &Room, case: &mut Case<'_>) {
+    let seqno = case.number();
+    if case.has_ended() {
+        put_seen(sources_of(case.alloc, room), seqno, case);
+        return;
+    }
+    let (snapshots, bottom) = (snapshots_of(case), level_of(case));
+    if case.ends() {
+        put_seen_compacted(sources_of(case.alloc, room), snapshots, bottom, seqno, case);
     }
 }

@@ -9,20 +9,15 @@ ghost use Rattle.std.specs.Prelude.{IfOk};
 ghost use Rattle.sst_merge.specs.Sources.{TakesFirst};
 
 use sst_base::{BlockHash, InternalValue, Slice, ValueType};
+use sst_block_cases::case::Case;
 use sst_block_cases::fault::{Fault, Result, kept};
 use sst_block_cases::room::Room;
-use sst_block_cases::words::{bytes_of, entry_of, hex_of, push_word, word_of};
 use sst_block_core::DataBlock;
 use sst_merge::front::front_of_key;
 use sst_merge::{Ranked, Source};
 use std::alloc::Global;
 
-/// Appends the word of an entry.
-fn push_entry(alloc: Global, text: &mut String, entry: &InternalValue) -> Result<()> {
-    push_word(text, word_of(alloc, entry)?.as_str())
-}
-
-/// Takes the first version of a source. An error has to come again.
+/// Takes the first version of a source. An error has to be returned again.
 fn taken<T: Drop, I: Source<T>>(alloc: Global, source: &mut I) -> Result<Option<T>>
     ensures { IfOk result (λ r. TakesFirst (I.left source.old) r (I.left source.new)) }
 {
@@ -32,48 +27,42 @@ fn taken<T: Drop, I: Source<T>>(alloc: Global, source: &mut I) -> Result<Option<
     }
 }
 
+/// Takes all that is left of a source, until an error. Returns whether there is none.
+fn put_drained<I: Source<InternalValue>>(source: &mut I, case: &mut Case<'_>) -> Result<()> {
+    'left: while let Some(entry) = taken(case.alloc, source)? {
+        case.space();
+        case.put_entry(&entry);
+    }
+    Ok(())
+}
+
 /// The words of all that is left of a source, or `none`.
-fn drained<I: Source<InternalValue>>(alloc: Global, source: &mut I) -> Result<String> {
-    let mut text = String::new(alloc);
-    while let Some(entry) = taken(alloc, source)? {
-        push_entry(alloc, &mut text, &entry)?;
+fn drain<I: Source<InternalValue>>(source: &mut I, case: &mut Case<'_>) {
+    let start = case.mark();
+    if let Err(fault) = put_drained(source, case) {
+        case.note(fault);
     }
-    or_none(alloc, text)
+    put_none(start, case);
 }
 
-/// Returns a text, or `none` if it is empty.
-fn or_none(alloc: Global, text: String) -> Result<String> {
-    if text.is_empty() {
-        return Ok(String::from_str(alloc, "none")?);
+/// Adds `none` if nothing was added since a mark.
+fn put_none(start: usize, case: &mut Case<'_>) {
+    if case.mark() == start {
+        case.put("none");
     }
-    Ok(text)
-}
-
-/// Begins without sources.
-fn no_sources(alloc: Global, room: &mut Room) -> Result<String> {
-    room.sources = Vec::new(alloc);
-    Ok(String::from_str(alloc, "0 sources")?)
-}
-
-/// Returns the entries of some words, which are in order.
-fn list_of<H: BlockHash>(alloc: Global, words: &[&str]) -> Result<Vec<InternalValue>> {
-    let mut list = Vec::new(alloc);
-    for word in words {
-        list.push(entry_of(alloc, word)?)?;
-    }
-    if !DataBlock::<H>::is_ordered(list.as_slice()) {
-        return Err(Fault::Word);
-    }
-    Ok(list)
 }
 
 /// Adds a source: ENTRY ..
-fn source<H: BlockHash>(alloc: Global, room: &mut Room, words: &[&str]) -> Result<String> {
-    let list = list_of::<H>(alloc, words)?;
-    let (count, sources) = (list.len(), room.sources.len().saturating_add(1));
-    let text = format!(in alloc; "{sources} sources, {count} entries")?;
-    room.sources.push(list)?;
-    Ok(text)
+fn source<H: BlockHash>(room: &mut Room, case: &mut Case<'_>) {
+    let list = case.entries();
+    if !case.is_sound() || !DataBlock::<H>::is_ordered(list.as_slice()) {
+        case.note(Fault::Word);
+        return;
+    }
+    let count = list.len();
+    case.push(&mut room.sources, list);
+    case.put_count(room.sources.len(), " sources, ");
+    case.put_count(count, " entries");
 }
 
 /// The front of an entry with a key, of at most 65535 bytes and at least one.
@@ -86,43 +75,43 @@ fn entry_front(alloc: Global, key: &[u8]) -> Result<u128> {
 }
 
 /// The front of a key in two parts, if the whole key and its entry have the same.
-fn same_front(alloc: Global, front: u128, key: &[u8]) -> Result<String> {
+fn put_front(front: u128, key: &[u8], case: &mut Case<'_>) {
     let whole = front_of_key(&[], key);
-    let of_entry = entry_front(alloc, key)?;
-    if front == whole && front == of_entry {
-        return hex_of(alloc, &front.to_be_bytes());
+    match entry_front(case.alloc, key) {
+        Ok(of_entry) if front == whole && front == of_entry => {
+            case.put_bytes(&front.to_be_bytes());
+        }
+        Ok(_) => case.put("others of the whole key"),
+        Err(fault) => case.note(fault),
     }
-    Ok(format!(in alloc; "{front}, whole {whole}, of an entry {of_entry}")?)
 }
 
 /// The front of a key, in two parts: BYTES BYTES.
-fn key_front(alloc: Global, words: &[&str]) -> Result<String> {
-    let [left, right] = words else {
-        return Err(Fault::Word);
-    };
-    let mut key = bytes_of(alloc, left)?;
-    let right = bytes_of(alloc, right)?;
+fn key_front(case: &mut Case<'_>) {
+    let (mut key, right) = (case.bytes(), case.bytes());
     let front = front_of_key(key.as_slice(), right.as_slice());
-    key.extend_from_slice(right.as_slice())?;
-    same_front(alloc, front, key.as_slice())
+    if key.extend_from_slice(right.as_slice()).is_err() {
+        case.refuse(sst_base::Error::Memory);
+    }
+    if case.ends() {
+        put_front(front, key.as_slice(), case);
+    }
 }
 
 /// Performs a command, if it is one on sources.
-pub fn perform<H: BlockHash>(
-    alloc: Global,
-    room: &mut Room,
-    name: &str,
-    words: &[&str],
-) -> Result<Option<String>> {
-    let answer = match name {
-        "sources" => no_sources(alloc, room),
-        "source" => source::<H>(alloc, room, words),
-        "key-front" => key_front(alloc, words),
-        "merge" => merging::merge(alloc, room),
-        "compact" => merging::compact(alloc, room, words),
-        "snapshot" => merging::snapshot(alloc, room, words),
-        "store" => stores::story(alloc, words),
-        _ => return tables::perform::<H>(alloc, room, name, words),
-    };
-    Ok(Some(answer?))
+pub fn perform<H: BlockHash>(room: &mut Room, name: &str, case: &mut Case<'_>) -> bool {
+    match name {
+        "sources" => {
+            room.sources = Vec::new(case.alloc);
+            case.put("0 sources");
+        }
+        "source" => source::<H>(room, case),
+        "key-front" => key_front(case),
+        "merge" => merging::merge(room, case),
+        "compact" => merging::compact(room, case),
+        "snapshot" => merging::snapshot(room, case),
+        "store" => stores::story(case),
+        _ => return tables::perform::<H>(room, name, case),
+    }
+    true
 }

@@ -1,8 +1,9 @@
 //! Sources of entries, and merges of them.
 
-use super::drained;
-use super::merging::drained_back;
+use super::drain;
+use super::merging::drain_back;
 use sst_base::InternalValue;
+use sst_block_cases::case::Case;
 use sst_block_cases::fault::Result;
 use sst_block_cases::room::Room;
 use sst_merge::{Head, Merge, Ranked, Rev, Reversed, Source};
@@ -52,19 +53,20 @@ pub fn backs_of<I: Drop>(alloc: Global, sources: Result<Vec<I>>) -> Result<Vec<R
 }
 
 /// The words of the merge of sources.
-pub fn merged<I: Source<InternalValue> + Drop>(
-    alloc: Global,
-    sources: Result<Vec<I>>,
-) -> Result<String> {
-    let mut merge = merge_of(alloc, sources)?;
-    drained(alloc, &mut merge)
+pub fn put_merged<I: Source<InternalValue> + Drop>(sources: Result<Vec<I>>, case: &mut Case<'_>) {
+    match merge_of(case.alloc, sources) {
+        Ok(mut merge) => drain(&mut merge, case),
+        Err(fault) => case.note(fault),
+    }
 }
 
 /// The same from the back, of which the sources are.
-pub fn merged_back<I: Source<Reversed<InternalValue>> + Drop>(
-    alloc: Global,
+pub fn put_merged_back<I: Source<Reversed<InternalValue>> + Drop>(
     sources: Result<Vec<I>>,
-) -> Result<String> {
-    let mut merge = merge_of(alloc, sources)?;
-    drained_back(alloc, &mut merge)
+    case: &mut Case<'_>,
+) {
+    match merge_of(case.alloc, sources) {
+        Ok(mut merge) => drain_back(&mut merge, case),
+        Err(fault) => case.note(fault),
+    }
 }

@@ -3,15 +3,14 @@ ghost use Rattle.std.specs.Prelude.{◌≡◌, Some, [], map};
 ghost use Rattle.sst_base.specs.declared.error.Error.TheVariants.{Memory};
 
 use super::merging::{level_of, snapshots_of};
-use super::or_none;
-use super::sources::{backs_of, memory_of, merge_of, merged, merged_back, sources_of};
+use super::put_none;
+use super::sources::{backs_of, memory_of, merge_of, put_merged, put_merged_back, sources_of};
 use sst_base::{BlockHash, HashRatio, InternalValue, Slice, Steps};
+use sst_block_cases::case::Case;
 use sst_block_cases::fault::{Fault, Result};
 use sst_block_cases::room::{KeptTable, Room};
-use sst_block_cases::texts::agreed;
-use sst_block_cases::words::{bytes_of, number_of, push_word, word_of_found};
 use sst_merge::{Outputs, Ranged, Reader, Sizes, Source, compact_tables, read_tables};
-use sstable_blocks::run::{FrameSource, MemorySource, RunConfig, RunHandles, RunSummary, Scan};
+use sstable_blocks::run::{FrameSource, MemorySource, RunConfig, RunHandles, Scan};
 use sstable_blocks::{RunWriter, Table};
 use std::alloc::Global;
 use std::ops::Bound;
@@ -55,14 +54,11 @@ struct Plan {
     sizes: Sizes,
 }
 
-/// Returns the sizes of two words.
-fn sizes_of(block: &str, table: &str) -> Result<Sizes> {
-    match (number_of(block), number_of(table)) {
-        (Ok(block), Ok(table)) => Ok(Sizes {
-            block: block as usize,
-            table: table as usize,
-        }),
-        _ => Err(Fault::Word),
+/// Takes the sizes of blocks and of tables.
+fn sizes_of(case: &mut Case<'_>) -> Sizes {
+    Sizes {
+        block: case.number() as usize,
+        table: case.number() as usize,
     }
 }
 
@@ -112,61 +108,48 @@ fn table_of<H: BlockHash>(alloc: Global, written: &KeptTable) -> Result<OpenTabl
     }
 }
 
-/// The numbers of entries and of blocks of a summary.
-fn text_of(alloc: Global, summary: &RunSummary) -> Result<String> {
-    let (entries, blocks) = (summary.entries, summary.blocks);
-    Ok(format!(in alloc; "{entries}/{blocks}")?)
-}
-
-/// The numbers of entries and of blocks of a table.
-fn counts_in<H: BlockHash, S: FrameSource>(
-    alloc: Global,
-    table: &mut Table<H, S>,
-) -> Result<String> {
-    match table.verify(alloc) {
-        Ok(summary) => text_of(alloc, &summary),
-        Err(error) => Err(Fault::Refused(error)),
+/// Adds the numbers of entries and of blocks of a table.
+fn put_counts<H: BlockHash, S: FrameSource>(table: &mut Table<H, S>, case: &mut Case<'_>) {
+    match table.verify(case.alloc) {
+        Ok(summary) => {
+            case.put_display(&summary.entries);
+            case.put("/");
+            case.put_display(&summary.blocks);
+        }
+        Err(error) => case.refuse(error),
     }
 }
 
-/// The numbers of entries and of blocks of a written table.
-fn counts_of<H: BlockHash>(alloc: Global, written: &KeptTable) -> Result<String> {
-    match table_of::<H>(alloc, written) {
-        Ok(mut table) => counts_in(alloc, &mut table),
-        Err(fault) => Err(fault),
-    }
-}
-
-/// The numbers of entries and of blocks of each table.
-fn all_counts<H: BlockHash>(alloc: Global, tables: &[KeptTable]) -> Result<String> {
-    let mut text = String::new(alloc);
+/// Adds the numbers of entries and of blocks of each table, or `none`.
+fn put_all_counts<H: BlockHash>(tables: &[KeptTable], case: &mut Case<'_>) {
+    let start = case.mark();
     for written in tables {
-        push_word(&mut text, counts_of::<H>(alloc, written)?.as_str())?;
+        case.space();
+        match table_of::<H>(case.alloc, written) {
+            Ok(mut table) => put_counts(&mut table, case),
+            Err(fault) => case.note(fault),
+        }
     }
-    or_none(alloc, text)
-}
-
-/// The plan of some words: SNAPSHOTS LEVEL BLOCK_SIZE TABLE_SIZE.
-fn plan_of(alloc: Global, words: &[&str]) -> Result<Plan> {
-    let [snapshots, level, block, table] = words else {
-        return Err(Fault::Word);
-    };
-    let snapshots = snapshots_of(alloc, snapshots)?;
-    match (level_of(level), sizes_of(block, table)) {
-        (Ok(bottom), Ok(sizes)) => Ok(Plan {
-            snapshots,
-            bottom,
-            sizes,
-        }),
-        _ => Err(Fault::Word),
-    }
+    put_none(start, case);
 }
 
 /// Compacts the sources into tables: SNAPSHOTS LEVEL BLOCK_SIZE TABLE_SIZE.
-fn tables<H: BlockHash>(alloc: Global, room: &mut Room, words: &[&str]) -> Result<String> {
-    let plan = plan_of(alloc, words)?;
-    room.tables = compacted::<H, _>(alloc, sources_of(alloc, room), plan)?;
-    all_counts::<H>(alloc, room.tables.as_slice())
+fn tables<H: BlockHash>(room: &mut Room, case: &mut Case<'_>) {
+    let plan = Plan {
+        snapshots: snapshots_of(case),
+        bottom: level_of(case),
+        sizes: sizes_of(case),
+    };
+    if !case.ends() {
+        return;
+    }
+    match compacted::<H, _>(case.alloc, sources_of(case.alloc, room), plan) {
+        Ok(tables) => {
+            room.tables = tables;
+            put_all_counts::<H>(room.tables.as_slice(), case);
+        }
+        Err(fault) => case.note(fault),
+    }
 }
 
 /// A table as a reader, with the range of its keys.
@@ -203,40 +186,23 @@ fn readers_of<H: BlockHash>(
     Ok(readers)
 }
 
-/// Returns the word of what is found.
-fn word_of_read(alloc: Global, found: sst_base::Result<Option<InternalValue>>) -> Result<String> {
-    let found = found?;
-    word_of_found(alloc, found.as_ref())
-}
-
-/// A read of a key over readers.
-fn read<R: Reader>(alloc: Global, readers: &mut [R], key: &str, seqno: u64) -> Result<String> {
-    let key = bytes_of(alloc, key)?;
-    let found = read_tables(alloc, readers, key.as_slice(), seqno, &mut Steps::new());
-    word_of_read(alloc, found)
-}
-
-/// Reads of keys over readers.
-fn read_all<R: Reader>(
-    alloc: Global,
-    readers: &mut [R],
-    seqno: &str,
-    keys: &[&str],
-) -> Result<String> {
-    let (seqno, mut text) = (number_of(seqno)?, String::new(alloc));
-    for key in keys {
-        push_word(&mut text, read(alloc, readers, key, seqno)?.as_str())?;
+/// Reads of keys over readers, to the last word.
+fn read_all<R: Reader>(readers: &mut [R], seqno: u64, case: &mut Case<'_>) {
+    for key in case.rest() {
+        let key = case.bytes_in(key);
+        case.space();
+        let mut steps = Steps::new();
+        case.put_read(read_tables(case.alloc, readers, key.as_slice(), seqno, &mut steps));
     }
-    Ok(text)
 }
 
 /// Reads over the tables: SEQNO KEY ..
-fn look<H: BlockHash>(alloc: Global, room: &Room, words: &[&str]) -> Result<String> {
-    let [seqno, keys @ ..] = words else {
-        return Err(Fault::Word);
-    };
-    let mut readers = readers_of::<H>(alloc, room.tables.as_slice())?;
-    read_all(alloc, readers.as_mut_slice(), seqno, keys)
+fn look<H: BlockHash>(room: &Room, case: &mut Case<'_>) {
+    let seqno = case.number();
+    match readers_of::<H>(case.alloc, room.tables.as_slice()) {
+        Ok(mut readers) => read_all(readers.as_mut_slice(), seqno, case),
+        Err(fault) => case.note(fault),
+    }
 }
 
 /// A scan of a stored table.
@@ -257,16 +223,6 @@ fn scans_of<H: BlockHash>(alloc: Global, tables: &[KeptTable]) -> Result<Vec<Sto
         add(&mut scans, scan_of::<H>(alloc, written))?;
     }
     Ok(scans)
-}
-
-/// The merge of scans of tables.
-fn by_scans<H: BlockHash>(alloc: Global, tables: &[KeptTable]) -> Result<String> {
-    merged(alloc, scans_of::<H>(alloc, tables))
-}
-
-/// The same from the back.
-fn by_scans_back<H: BlockHash>(alloc: Global, tables: &[KeptTable]) -> Result<String> {
-    merged_back(alloc, backs_of(alloc, scans_of::<H>(alloc, tables)))
 }
 
 /// Writes a list into tables, which are added.
@@ -294,31 +250,37 @@ fn written<H: BlockHash>(alloc: Global, room: &Room, sizes: Sizes) -> Result<Vec
     Ok(kept.tables)
 }
 
+/// The merge of scans of tables, from the front and from the back.
+fn put_scans<H: BlockHash>(tables: &[KeptTable], case: &mut Case<'_>) {
+    let mut ways = case.ways();
+    put_merged(scans_of::<H>(case.alloc, tables), case);
+    case.another(&mut ways);
+    put_merged_back(
+        backs_of(case.alloc, scans_of::<H>(case.alloc, tables)),
+        case,
+    );
+    case.agreed(&mut ways);
+}
+
 /// The merge of scans of tables into which each source is written: BLOCK_SIZE TABLE_SIZE.
-fn stored<H: BlockHash>(alloc: Global, room: &Room, words: &[&str]) -> Result<String> {
-    let [block, table] = words else {
-        return Err(Fault::Word);
-    };
-    let tables = written::<H>(alloc, room, sizes_of(block, table)?)?;
-    let found = [
-        by_scans::<H>(alloc, tables.as_slice()),
-        by_scans_back::<H>(alloc, tables.as_slice()),
-    ];
-    agreed(alloc, &found)
+fn stored<H: BlockHash>(room: &Room, case: &mut Case<'_>) {
+    let sizes = sizes_of(case);
+    if !case.ends() {
+        return;
+    }
+    match written::<H>(case.alloc, room, sizes) {
+        Ok(tables) => put_scans::<H>(tables.as_slice(), case),
+        Err(fault) => case.note(fault),
+    }
 }
 
 /// Performs a command, if it is one on tables.
-pub fn perform<H: BlockHash>(
-    alloc: Global,
-    room: &mut Room,
-    name: &str,
-    words: &[&str],
-) -> Result<Option<String>> {
-    let answer = match name {
-        "tables" => tables::<H>(alloc, room, words),
-        "look" => look::<H>(alloc, room, words),
-        "stored" => stored::<H>(alloc, room, words),
-        _ => return Ok(None),
-    };
-    Ok(Some(answer?))
+pub fn perform<H: BlockHash>(room: &mut Room, name: &str, case: &mut Case<'_>) -> bool {
+    match name {
+        "tables" => tables::<H>(room, case),
+        "look" => look::<H>(room, case),
+        "stored" => stored::<H>(room, case),
+        _ => return false,
+    }
+    true
 }

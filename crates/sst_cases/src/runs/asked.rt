@@ -4,10 +4,11 @@ ghost use Rattle.sst_base.specs.Entry.{Entry};
 ghost use Rattle.sstable_blocks.specs.RunReading.{hashes};
 ghost use Rattle.sstable_blocks.specs.Sound.{IsSound};
 
-use super::checking::{checked, summary_of};
-use super::reads::{fetched, read_ref, read_sound, text_of};
-use super::scans::{Path, scan_ref, scan_sound, scan_table};
+use super::checking::{put_checked, put_summary};
+use super::reads::{put_fetched, put_read_of_ref, put_sound_read};
+use super::scans::{Path, put_scan_of_ref, put_sound_scan, put_table_scan};
 use sst_base::{BlockHash, Slice, Steps};
+use sst_block_cases::case::Case;
 use sst_block_cases::fault::{Fault, Result};
 use sst_block_cases::room::Room;
 use sstable_blocks::Table;
@@ -42,83 +43,70 @@ pub enum Place {
     File,
 }
 
-/// The check of a table.
-fn verified<H: BlockHash, S: FrameSource>(
-    alloc: Global,
-    table: &mut Table<H, S>,
-) -> Result<String> {
-    summary_of(alloc, table.verify(alloc))
-}
-
-/// A read of a table.
-fn read_in<H: BlockHash, S: FrameSource>(
-    alloc: Global,
-    table: &mut Table<H, S>,
-    query: Query<'_>,
-) -> Result<String> {
-    text_of(alloc, table.get(alloc, query.0, query.1, &mut Steps::new()))
-}
-
-/// What a table answers.
-fn of_table<H: BlockHash, S: FrameSource + Drop>(
-    alloc: Global,
+/// What a table returns.
+fn ask_table<H: BlockHash, S: FrameSource + Drop>(
     mut table: Table<H, S>,
     asked: Asked<'_>,
-) -> Result<String> {
+    case: &mut Case<'_>,
+) {
     match asked {
-        Asked::Check | Asked::Verify => verified(alloc, &mut table),
-        Asked::Fetch(query) | Asked::Read(query) => read_in(alloc, &mut table, query),
-        Asked::Scan(path) => scan_table(alloc, table, path),
+        Asked::Check | Asked::Verify => put_summary(table.verify(case.alloc), case),
+        Asked::Fetch(query) | Asked::Read(query) => {
+            case.put_read(table.get(case.alloc, query.0, query.1, &mut Steps::new()));
+        }
+        Asked::Scan(path) => put_table_scan(table, path, case),
     }
 }
 
-/// What a run in a source answers by a table, which is opened first.
-fn by_table<H: BlockHash, S: FrameSource + Drop>(
-    alloc: Global,
+/// What a run in a source returns by a table, which is opened first.
+fn open_and_ask<H: BlockHash, S: FrameSource + Drop>(
     source: S,
     handles: &RunHandles,
     asked: Asked<'_>,
-) -> Result<String> {
-    match Table::<H, S>::open(alloc, source, *handles) {
-        Ok(table) => of_table(alloc, table, asked),
-        Err(refused) => Err(Fault::Refused(refused.error)),
+    case: &mut Case<'_>,
+) {
+    match Table::<H, S>::open(case.alloc, source, *handles) {
+        Ok(table) => ask_table(table, asked, case),
+        Err(refused) => case.refuse(refused.error),
     }
 }
 
-/// What a run in a source answers.
-fn of_source<H: BlockHash, S: FrameSource + Drop>(
-    alloc: Global,
+/// What a run in a source returns.
+fn ask_source<H: BlockHash, S: FrameSource + Drop>(
     source: S,
     handles: &RunHandles,
     asked: Asked<'_>,
-) -> Result<String> {
+    case: &mut Case<'_>,
+) {
     match asked {
-        Asked::Check => checked::<H, S>(alloc, source, handles),
-        Asked::Fetch(query) => fetched::<H, S>(alloc, source, handles, query),
-        _ => by_table::<H, S>(alloc, source, handles, asked),
+        Asked::Check => put_checked::<H, S>(source, handles, case),
+        Asked::Fetch(query) => put_fetched::<H, S>(source, handles, query, case),
+        _ => open_and_ask::<H, S>(source, handles, asked, case),
     }
 }
 
-/// What the run of the room answers in a place.
-pub fn of_run<H: BlockHash>(
-    alloc: Global,
-    room: &Room,
-    place: Place,
+/// What the run of the room returns in memory.
+fn ask_memory<H: BlockHash>(
+    bytes: &[u8],
+    handles: &RunHandles,
     asked: Asked<'_>,
-) -> Result<String> {
-    let Some(handles) = room.places else {
-        return Err(Fault::Word);
-    };
+    case: &mut Case<'_>,
+) {
+    match Slice::new(case.alloc, bytes) {
+        Ok(bytes) => ask_source::<H, _>(MemorySource::new(bytes), handles, asked, case),
+        Err(error) => case.refuse(error),
+    }
+}
+
+/// What the run of the room returns in a place.
+pub fn ask_run<H: BlockHash>(room: &Room, place: Place, asked: Asked<'_>, case: &mut Case<'_>) {
     let bytes = room.payload.as_slice();
-    match place {
-        Place::Memory => {
-            let source = MemorySource::new(Slice::new(alloc, bytes)?);
-            of_source::<H, _>(alloc, source, &handles, asked)
+    match (&room.places, place) {
+        (Some(handles), Place::Memory) => ask_memory::<H>(bytes, handles, asked, case),
+        (Some(handles), Place::File) => {
+            ask_source::<H, _>(FileSource::new(Cursor::new(bytes)), handles, asked, case);
         }
-        Place::File => {
-            let source = FileSource::new(Cursor::new(bytes));
-            of_source::<H, _>(alloc, source, &handles, asked)
-        }
+        (None, _) => case.note(Fault::Word),
     }
 }
 
@@ -131,15 +119,11 @@ pub enum Wanted<'a> {
     Scan(&'a Path<'a>),
 }
 
-/// What a run over borrowed bytes answers.
-pub fn of_ref<H: BlockHash>(
-    alloc: Global,
-    run: &RunRef<'_, H>,
-    wanted: Wanted<'_>,
-) -> Result<String> {
+/// What a run over borrowed bytes returns.
+pub fn ask_ref<H: BlockHash>(run: &RunRef<'_, H>, wanted: Wanted<'_>, case: &mut Case<'_>) {
     match wanted {
-        Wanted::Read(query) => read_ref::<H>(alloc, run, query),
-        Wanted::Scan(path) => scan_ref::<H>(alloc, run, path),
+        Wanted::Read(query) => put_read_of_ref::<H>(run, query, case),
+        Wanted::Scan(path) => put_scan_of_ref::<H>(run, path, case),
     }
 }
 
@@ -158,44 +142,62 @@ fn table_of<H: BlockHash>(
     }
 }
 
-/// What a sound run in memory answers by a table without checks.
-pub fn by_trusted<H: BlockHash>(
-    alloc: Global,
+/// What a sound run in memory returns by a table without checks.
+pub fn ask_trusted<H: BlockHash>(
     run: &Slice,
     handles: &RunHandles,
     wanted: Wanted<'_>,
-) -> Result<String>
+    case: &mut Case<'_>,
+)
     requires { (blocks : List (List Entry))
         × IsSound (hashes H.hash64 H.hash128) blocks run.now handles.now }
 {
-    let table = table_of::<H>(alloc, run, handles)?;
-    of_ref::<H>(alloc, &table.trusted(), wanted)
+    match table_of::<H>(case.alloc, run, handles) {
+        Ok(table) => ask_ref::<H>(&table.trusted(), wanted, case),
+        Err(fault) => case.note(fault),
+    }
 }
 
-/// What a sound run answers, by all that read it.
-fn by_all<H: BlockHash>(
-    alloc: Global,
+/// What a sound run returns, by all that read it.
+fn ask_all<H: BlockHash>(
     room: &Room,
     checked: &RunRef<'_, H>,
     run: &Slice,
     handles: &RunHandles,
     wanted: Wanted<'_>,
-) -> Result<String>
+    case: &mut Case<'_>,
+)
     requires { (blocks : List (List Entry))
         × IsSound (hashes H.hash64 H.hash128) blocks run.now handles.now }
 {
     match wanted {
-        Wanted::Read(query) => read_sound::<H>(alloc, room, checked, run, handles, query),
-        Wanted::Scan(path) => scan_sound::<H>(alloc, room, checked, run, handles, path),
+        Wanted::Read(query) => put_sound_read::<H>(room, checked, run, handles, query, case),
+        Wanted::Scan(path) => put_sound_scan::<H>(room, checked, run, handles, path, case),
     }
 }
 
-/// What a sound run answers, by all that read it. The run is checked first.
-pub fn of_sound<H: BlockHash>(alloc: Global, room: &Room, wanted: Wanted<'_>) -> Result<String> {
+/// What a sound run in a slice returns, by all that read it. The run is checked first.
+fn ask_sound_slice<H: BlockHash>(
+    room: &Room,
+    run: &Slice,
+    handles: &RunHandles,
+    wanted: Wanted<'_>,
+    case: &mut Case<'_>,
+) {
+    match &RunRef::<H>::check(case.alloc, run.as_slice(), handles) {
+        Ok((checked, _)) => ask_all::<H>(room, checked, run, handles, wanted, case),
+        Err(error) => case.refuse(*error),
+    }
+}
+
+/// What a sound run returns, by all that read it. The run is checked first.
+pub fn ask_sound<H: BlockHash>(room: &Room, wanted: Wanted<'_>, case: &mut Case<'_>) {
     let Some(handles) = room.places else {
-        return Err(Fault::Word);
+        case.note(Fault::Word);
+        return;
     };
-    let run = Slice::new(alloc, room.payload.as_slice())?;
-    let (checked, _) = RunRef::<H>::check(alloc, run.as_slice(), &handles)?;
-    by_all::<H>(alloc, room, &checked, &run, &handles, wanted)
+    match Slice::new(case.alloc, room.payload.as_slice()) {
+        Ok(run) => ask_sound_slice::<H>(room, &run, &handles, wanted, case),
+        Err(error) => case.refuse(error),
+    }
 }

@@ -1,95 +1,85 @@
 //! Checks of runs.
 
-use super::asked::{Asked, Place, of_run};
-use sst_base::{BlockHash, Error};
-use sst_block_cases::fault::{Fault, Result};
+use super::asked::{Asked, Place, ask_run};
+use sst_base::{BlockHash, Result};
+use sst_block_cases::case::Case;
+use sst_block_cases::fault::Fault;
 use sst_block_cases::room::Room;
-use sst_block_cases::texts::agreed;
-use sst_block_cases::words::hex_of;
 use sstable_blocks::run::{FrameSource, RunHandles, RunRef, RunSummary, check};
-use std::alloc::Global;
 
-/// What a check finds.
-type Checked = std::result::Result<RunSummary, Error>;
-
-/// Returns the text of the first and the last key of a run.
-fn keys_of(alloc: Global, summary: &RunSummary) -> Result<String> {
-    let first = hex_of(alloc, summary.first_key.as_slice())?;
-    let last = hex_of(alloc, summary.last_key.as_slice())?;
-    Ok(format!(in alloc; "keys {first} to {last}")?)
+/// Adds what a check finds.
+fn put_found(summary: &RunSummary, case: &mut Case<'_>) {
+    case.put_display(&summary.blocks);
+    case.put(" blocks, ");
+    case.put_display(&summary.entries);
+    case.put(" entries, keys ");
+    case.put_bytes(summary.first_key.as_slice());
+    case.put(" to ");
+    case.put_bytes(summary.last_key.as_slice());
+    case.put(", seqnos ");
+    case.put_number(summary.least_seqno);
+    case.put(" to ");
+    case.put_number(summary.greatest_seqno);
 }
 
-/// Returns the text of a summary.
-fn text_of(alloc: Global, summary: &RunSummary) -> Result<String> {
-    let (blocks, entries) = (summary.blocks, summary.entries);
-    let keys = keys_of(alloc, summary)?;
-    let (least, greatest) = (summary.least_seqno, summary.greatest_seqno);
-    Ok(format!(in alloc;
-        "{blocks} blocks, {entries} entries, {keys}, seqnos {least} to {greatest}"
-    )?)
-}
-
-/// Returns the text of what a check finds.
-pub fn summary_of(alloc: Global, checked: Checked) -> Result<String> {
-    let summary = checked?;
-    text_of(alloc, &summary)
+/// Adds what a check finds, or notes its error.
+pub fn put_summary(checked: Result<RunSummary>, case: &mut Case<'_>) {
+    match checked {
+        Ok(summary) => put_found(&summary, case),
+        Err(error) => case.refuse(error),
+    }
 }
 
 /// The check of a run in a source.
-pub fn checked<H: BlockHash, S: FrameSource + Drop>(
-    alloc: Global,
+pub fn put_checked<H: BlockHash, S: FrameSource + Drop>(
     mut source: S,
     handles: &RunHandles,
-) -> Result<String> {
-    summary_of(alloc, check::<H, S>(alloc, &mut source, handles))
+    case: &mut Case<'_>,
+) {
+    put_summary(check::<H, S>(case.alloc, &mut source, handles), case);
 }
 
-/// The check of the run in bytes that are lent, by what borrows them.
-fn by_ref<H: BlockHash>(alloc: Global, room: &Room) -> Result<String> {
+/// The check of the run in borrowed bytes, by what borrows them.
+fn by_ref<H: BlockHash>(room: &Room, case: &mut Case<'_>) {
     let Some(handles) = room.places else {
-        return Err(Fault::Word);
+        case.note(Fault::Word);
+        return;
     };
-    let checked = RunRef::<H>::check(alloc, room.payload.as_slice(), &handles)?;
-    text_of(alloc, &checked.1)
+    match &RunRef::<H>::check(case.alloc, room.payload.as_slice(), &handles) {
+        Ok((_, summary)) => put_found(summary, case),
+        Err(error) => case.refuse(*error),
+    }
 }
 
 /// The check of the run in memory, by each of its calls.
-fn check_memory<H: BlockHash>(alloc: Global, room: &Room) -> Result<String> {
-    let found = [
-        of_run::<H>(alloc, room, Place::Memory, Asked::Check),
-        of_run::<H>(alloc, room, Place::Memory, Asked::Verify),
-        by_ref::<H>(alloc, room),
-    ];
-    agreed(alloc, &found)
+fn check_memory<H: BlockHash>(room: &Room, case: &mut Case<'_>) {
+    let mut ways = case.ways();
+    ask_run::<H>(room, Place::Memory, Asked::Check, case);
+    case.another(&mut ways);
+    ask_run::<H>(room, Place::Memory, Asked::Verify, case);
+    case.another(&mut ways);
+    by_ref::<H>(room, case);
+    case.agreed(&mut ways);
 }
 
 /// The check of the run in a file, by each of its calls.
-fn check_file<H: BlockHash>(alloc: Global, room: &Room) -> Result<String> {
-    let found = [
-        of_run::<H>(alloc, room, Place::File, Asked::Check),
-        of_run::<H>(alloc, room, Place::File, Asked::Verify),
-    ];
-    agreed(alloc, &found)
+fn check_file<H: BlockHash>(room: &Room, case: &mut Case<'_>) {
+    let mut ways = case.ways();
+    ask_run::<H>(room, Place::File, Asked::Check, case);
+    case.another(&mut ways);
+    ask_run::<H>(room, Place::File, Asked::Verify, case);
+    case.agreed(&mut ways);
 }
 
-/// The check of the run, in memory or in a `file`.
-fn verify<H: BlockHash>(alloc: Global, room: &Room, words: &[&str]) -> Result<String> {
-    match words {
-        [] => check_memory::<H>(alloc, room),
-        ["file"] => check_file::<H>(alloc, room),
-        _ => Err(Fault::Word),
+/// Performs a command, if it is a check of a run, in memory or in a `file`.
+pub fn perform<H: BlockHash>(room: &Room, name: &str, case: &mut Case<'_>) -> bool {
+    if name != "verify" {
+        return false;
     }
-}
-
-/// Performs a command, if it is a check of a run.
-pub fn perform<H: BlockHash>(
-    alloc: Global,
-    room: &Room,
-    name: &str,
-    words: &[&str],
-) -> Option<Result<String>> {
-    match name {
-        "verify" => Some(verify::<H>(alloc, room, words)),
-        _ => None,
+    match case.rest() {
+        [] => check_memory::<H>(room, case),
+        ["file"] => check_file::<H>(room, case),
+        _ => case.note(Fault::Word),
     }
+    true
 }

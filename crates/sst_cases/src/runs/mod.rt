@@ -8,43 +8,36 @@ mod reads;
 mod scans;
 mod writing;
 
-use sst_base::BlockHash;
-use sst_block_cases::fault::Result;
+use sst_base::{BlockHandle, BlockHash};
+use sst_block_cases::case::Case;
 use sst_block_cases::room::Room;
 use sstable_blocks::run::RunHandles;
-use std::alloc::Global;
 
-/// Returns the text of the handles of a run.
-fn text_of(alloc: Global, handles: &RunHandles) -> Result<String> {
-    let (offset, size) = (*handles.index.offset(), handles.index.size());
-    let text = match &handles.filter {
+/// Adds a plain handle.
+fn put_handle(handle: &BlockHandle, case: &mut Case<'_>) {
+    case.put_number(*handle.offset());
+    case.put(" ");
+    case.put_number(u64::from(handle.size()));
+}
+
+/// Adds the handles of a run.
+fn put_handles(handles: &RunHandles, case: &mut Case<'_>) {
+    case.put("index ");
+    put_handle(&handles.index, case);
+    match &handles.filter {
         Some(filter) => {
-            let (at, len) = (*filter.offset(), filter.size());
-            format!(in alloc; "index {offset} {size}, filter {at} {len}")
+            case.put(", filter ");
+            put_handle(filter, case);
         }
-        None => format!(in alloc; "index {offset} {size}, no filter"),
-    };
-    Ok(text?)
+        None => case.put(", no filter"),
+    }
 }
 
 /// Performs a command, if it is one on runs.
-pub fn perform<H: BlockHash>(
-    alloc: Global,
-    room: &mut Room,
-    name: &str,
-    words: &[&str],
-) -> Option<Result<String>> {
-    if let Some(answer) = writing::perform::<H>(alloc, room, name, words) {
-        return Some(answer);
-    }
-    if let Some(answer) = footers::perform::<H>(alloc, room, name, words) {
-        return Some(answer);
-    }
-    if let Some(answer) = checking::perform::<H>(alloc, room, name, words) {
-        return Some(answer);
-    }
-    if let Some(answer) = reads::perform::<H>(alloc, room, name, words) {
-        return Some(answer);
-    }
-    scans::perform::<H>(alloc, room, name, words)
+pub fn perform<H: BlockHash>(room: &mut Room, name: &str, case: &mut Case<'_>) -> bool {
+    writing::perform::<H>(room, name, case)
+        || footers::perform::<H>(room, name, case)
+        || checking::perform::<H>(room, name, case)
+        || reads::perform::<H>(room, name, case)
+        || scans::perform::<H>(room, name, case)
 }

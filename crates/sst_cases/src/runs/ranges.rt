@@ -1,8 +1,7 @@
 //! Ranges of keys, as words.
 
-use sst_block_cases::fault::{Fault, Result};
-use sst_block_cases::words::bytes_of;
-use std::alloc::Global;
+use sst_block_cases::case::Case;
+use sst_block_cases::fault::Fault;
 use std::ops::Bound;
 
 /// An end of a range of keys.
@@ -24,25 +23,31 @@ pub fn bound_of(end: &End) -> Bound<&[u8]> {
 
 /// Returns an end of a range that has a key, or has none and is `*`.
 fn end_with(
-    alloc: Global,
     word: &str,
     included: Option<&str>,
     excluded: Option<&str>,
-) -> Result<End> {
+    case: &mut Case<'_>,
+) -> End {
     match (included, excluded) {
-        (Some(key), _) => Ok(End::Included(bytes_of(alloc, key)?)),
-        (None, Some(key)) => Ok(End::Excluded(bytes_of(alloc, key)?)),
-        (None, None) if word == "*" => Ok(End::Open),
-        (None, None) => Err(Fault::Word),
+        (Some(key), _) => End::Included(case.bytes_in(key)),
+        (None, Some(key)) => End::Excluded(case.bytes_in(key)),
+        (None, None) => {
+            if word != "*" {
+                case.note(Fault::Word);
+            }
+            End::Open
+        }
     }
 }
 
-/// Returns the start of a range: `*`, or a key after `[` or `(`.
-pub fn start_of(alloc: Global, word: &str) -> Result<End> {
-    end_with(alloc, word, word.strip_prefix('['), word.strip_prefix('('))
+/// Takes the start of a range: `*`, or a key after `[` or `(`.
+pub fn start_of(case: &mut Case<'_>) -> End {
+    let word = case.word();
+    end_with(word, word.strip_prefix('['), word.strip_prefix('('), case)
 }
 
-/// Returns the end of a range: `*`, or a key before `]` or `)`.
-pub fn end_of(alloc: Global, word: &str) -> Result<End> {
-    end_with(alloc, word, word.strip_suffix(']'), word.strip_suffix(')'))
+/// Takes the end of a range: `*`, or a key before `]` or `)`.
+pub fn end_of(case: &mut Case<'_>) -> End {
+    let word = case.word();
+    end_with(word, word.strip_suffix(']'), word.strip_suffix(')'), case)
 }

@@ -4,13 +4,12 @@ ghost use Rattle.sst_base.specs.Entry.{Entry};
 ghost use Rattle.sstable_blocks.specs.RunReading.{hashes};
 ghost use Rattle.sstable_blocks.specs.Sound.{IsSound};
 
-use super::asked::{Asked, Place, Wanted, by_trusted, of_run, of_sound};
+use super::asked::{Asked, Place, Wanted, ask_run, ask_sound, ask_trusted};
 use super::ranges::{End, bound_of, end_of, start_of};
 use sst_base::{BlockHash, Error, InternalValue, Slice};
-use sst_block_cases::fault::{Fault, Result, kept};
+use sst_block_cases::case::Case;
+use sst_block_cases::fault::{Fault, kept};
 use sst_block_cases::room::Room;
-use sst_block_cases::texts::agreed;
-use sst_block_cases::words::{push_word, word_of_found};
 use sstable_blocks::Table;
 use sstable_blocks::run::{FrameSource, RunHandles, RunRef, RunScan, Scan};
 use std::alloc::Global;
@@ -70,35 +69,30 @@ impl<H: BlockHash> BothEnds for Made<'_, '_, H> {
 }
 
 /// The word of what a step takes, or of its error, which the next step has to return again.
-fn word_of_step<S: BothEnds>(alloc: Global, scan: &mut S, is_first: bool) -> Result<String> {
-    let error = match scan.step(alloc, is_first) {
-        Ok(found) => return word_of_found(alloc, found.as_ref()),
+fn put_step<S: BothEnds>(scan: &mut S, is_first: bool, case: &mut Case<'_>) {
+    let error = match scan.step(case.alloc, is_first) {
+        Ok(Some(entry)) => {
+            case.put_entry(&entry);
+            return;
+        }
+        Ok(None) => {
+            case.put("none");
+            return;
+        }
         Err(error) => error,
     };
-    match kept(error, scan.step(alloc, is_first).err()) {
-        Fault::Refused(error) if error != Error::Memory => Ok(format!(in alloc; "{error:?}")?),
-        fault => Err(fault),
+    match kept(error, scan.step(case.alloc, is_first).err()) {
+        Fault::Refused(error) if error != Error::Memory => case.put_debug(&error),
+        fault => case.note(fault),
     }
 }
 
-/// Appends what a step of a scan takes: `n` takes the first entry left, and another letter the
-/// last.
-fn push_step<S: BothEnds>(
-    alloc: Global,
-    scan: &mut S,
-    letter: u8,
-    text: &mut String,
-) -> Result<()> {
-    push_word(text, word_of_step(alloc, scan, letter == b'n')?.as_str())
-}
-
-/// Takes steps of a scan.
-fn steps_of<S: BothEnds + Drop>(alloc: Global, mut scan: S, steps: &str) -> Result<String> {
-    let mut text = String::new(alloc);
+/// Takes steps of a scan: `n` takes the first entry left, and another letter the last.
+fn put_steps<S: BothEnds + Drop>(mut scan: S, steps: &str, case: &mut Case<'_>) {
     for letter in steps.as_bytes() {
-        push_step(alloc, &mut scan, *letter, &mut text)?;
+        case.space();
+        put_step(&mut scan, *letter == b'n', case);
     }
-    Ok(text)
 }
 
 /// The start and the end of a range, and the steps of a scan of it.
@@ -110,87 +104,71 @@ pub struct Path<'a> {
 }
 
 /// Scans a table.
-pub fn scan_table<H: BlockHash, S: FrameSource + Drop>(
-    alloc: Global,
+pub fn put_table_scan<H: BlockHash, S: FrameSource + Drop>(
     table: Table<H, S>,
     path: &Path<'_>,
-) -> Result<String> {
+    case: &mut Case<'_>,
+) {
     let (start, end) = (bound_of(&path.start), bound_of(&path.end));
-    steps_of(alloc, table.scan_range(start, end), path.steps)
+    put_steps(table.scan_range(start, end), path.steps, case);
 }
 
 /// Scans a sound run by views that borrow its bytes.
-pub fn scan_ref<H: BlockHash>(
-    alloc: Global,
-    run: &RunRef<'_, H>,
-    path: &Path<'_>,
-) -> Result<String> {
+pub fn put_scan_of_ref<H: BlockHash>(run: &RunRef<'_, H>, path: &Path<'_>, case: &mut Case<'_>) {
     let (start, end) = (bound_of(&path.start), bound_of(&path.end));
     let made = Made {
         views: run.scan_range(start, end),
         ended: None,
     };
-    steps_of(alloc, made, path.steps)
+    put_steps(made, path.steps, case);
 }
 
 /// Scans a sound run in each way.
-pub fn scan_sound<H: BlockHash>(
-    alloc: Global,
+pub fn put_sound_scan<H: BlockHash>(
     room: &Room,
     checked: &RunRef<'_, H>,
     run: &Slice,
     handles: &RunHandles,
     path: &Path<'_>,
-) -> Result<String>
+    case: &mut Case<'_>,
+)
     requires { (blocks : List (List Entry))
         × IsSound (hashes H.hash64 H.hash128) blocks run.now handles.now }
 {
-    let found = [
-        of_run::<H>(alloc, room, Place::Memory, Asked::Scan(path)),
-        of_run::<H>(alloc, room, Place::File, Asked::Scan(path)),
-        scan_ref::<H>(alloc, checked, path),
-        by_trusted::<H>(alloc, run, handles, Wanted::Scan(path)),
-    ];
-    agreed(alloc, &found)
-}
-
-/// Returns the range and the steps of some words: START END STEPS.
-fn path_of<'a>(alloc: Global, words: &[&'a str]) -> Result<Path<'a>> {
-    let [start, end, steps] = words else {
-        return Err(Fault::Word);
-    };
-    Ok(Path {
-        start: start_of(alloc, start)?,
-        end: end_of(alloc, end)?,
-        steps,
-    })
+    let mut ways = case.ways();
+    ask_run::<H>(room, Place::Memory, Asked::Scan(path), case);
+    case.another(&mut ways);
+    ask_run::<H>(room, Place::File, Asked::Scan(path), case);
+    case.another(&mut ways);
+    put_scan_of_ref::<H>(checked, path, case);
+    case.another(&mut ways);
+    ask_trusted::<H>(run, handles, Wanted::Scan(path), case);
+    case.agreed(&mut ways);
 }
 
 /// Scans a run, which is sound or may be damaged: START END STEPS.
-fn scan<H: BlockHash>(
-    alloc: Global,
-    room: &Room,
-    words: &[&str],
-    is_sound: bool,
-) -> Result<String> {
-    let path = path_of(alloc, words)?;
+fn scan<H: BlockHash>(room: &Room, is_sound: bool, case: &mut Case<'_>) {
+    let path = Path {
+        start: start_of(case),
+        end: end_of(case),
+        steps: case.word(),
+    };
+    if !case.ends() {
+        return;
+    }
     if is_sound {
-        of_sound::<H>(alloc, room, Wanted::Scan(&path))
+        ask_sound::<H>(room, Wanted::Scan(&path), case);
     } else {
-        of_run::<H>(alloc, room, Place::Memory, Asked::Scan(&path))
+        ask_run::<H>(room, Place::Memory, Asked::Scan(&path), case);
     }
 }
 
 /// Performs a command, if it is one that scans a run.
-pub fn perform<H: BlockHash>(
-    alloc: Global,
-    room: &Room,
-    name: &str,
-    words: &[&str],
-) -> Option<Result<String>> {
-    Some(match name {
-        "scan" => scan::<H>(alloc, room, words, true),
-        "scan-damaged" => scan::<H>(alloc, room, words, false),
-        _ => return None,
-    })
+pub fn perform<H: BlockHash>(room: &Room, name: &str, case: &mut Case<'_>) -> bool {
+    match name {
+        "scan" => scan::<H>(room, true, case),
+        "scan-damaged" => scan::<H>(room, false, case),
+        _ => return false,
+    }
+    true
 }

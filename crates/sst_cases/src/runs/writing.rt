@@ -4,43 +4,35 @@ ghost use Rattle.sst_block_core.specs.Entries.{entries};
 ghost use Rattle.sst_block_core.specs.Kind.{IsOrdered};
 ghost use Rattle.sstable_blocks.specs.Blocks.{CutsFit};
 
-use super::text_of;
+use super::put_handles;
 use sst_base::{BlockHash, ByteSum, HashRatio, InternalValue};
+use sst_block_cases::case::Case;
 use sst_block_cases::fault::{Fault, Result};
 use sst_block_cases::room::Room;
-use sst_block_cases::words::{entry_of, number_of, size_of, small_of};
 use sst_block_core::DataBlock;
 use sstable_blocks::run::{RunConfig, RunHandles, RunWriter, cuts_fit, write_run};
 use std::alloc::Global;
 
-/// Returns how a run is written: INTERVAL NUM DEN BITS INDEX_INTERVAL.
-fn config_of(words: &[&str]) -> Result<RunConfig> {
-    let [interval, num, den, bits, index_interval] = words else {
-        return Err(Fault::Word);
-    };
-    let intervals = (small_of(interval), small_of(index_interval));
-    let (Ok(restart_interval), Ok(index_interval)) = intervals else {
-        return Err(Fault::Word);
-    };
-    let sizes = (size_of(num), size_of(den), size_of(bits));
-    let (Ok(num), Ok(den), Ok(bits_per_key)) = sizes else {
-        return Err(Fault::Word);
-    };
-    Ok(RunConfig {
+/// Takes how a run is written: INTERVAL NUM DEN BITS INDEX_INTERVAL.
+fn config_of(case: &mut Case<'_>) -> RunConfig {
+    let restart_interval = case.small();
+    let (num, den) = (case.size(), case.size());
+    RunConfig {
         restart_interval,
         ratio: HashRatio { num, den },
-        bits_per_key,
-        index_interval,
-    })
+        bits_per_key: case.size(),
+        index_interval: case.small(),
+    }
 }
 
-/// Returns the numbers of some words.
-fn numbers_of(alloc: Global, words: &[&str]) -> Result<Vec<usize>> {
-    let mut numbers = Vec::new(alloc);
-    for word in words {
-        numbers.push(number_of(word)? as usize)?;
+/// Takes numbers, to the last word.
+fn numbers_of(case: &mut Case<'_>) -> Vec<usize> {
+    let mut numbers = Vec::new(case.alloc);
+    for word in case.rest() {
+        let number = case.number_in(word) as usize;
+        case.push(&mut numbers, number);
     }
-    Ok(numbers)
+    numbers
 }
 
 /// Returns whether a run of these entries, cut like this, can be written.
@@ -120,123 +112,105 @@ fn write_blocks<H: BlockHash>(
     }
 }
 
-/// Returns a run that is written at once, and whether it is the same block by block.
-fn written<H: BlockHash>(
-    alloc: Global,
-    items: &[InternalValue],
-    cuts: &[usize],
-    config: RunConfig,
-) -> Result<(Written, bool)> {
-    let whole = write_whole::<H>(alloc, items, cuts, config)?;
-    let is_same = is_same_by_blocks::<H>(alloc, items, cuts, config, &whole)?;
-    Ok((whole, is_same))
-}
-
-/// Returns whether a run that is written block by block is this one.
+/// Whether a run that is written block by block is this one.
 fn is_same_by_blocks<H: BlockHash>(
-    alloc: Global,
     items: &[InternalValue],
     cuts: &[usize],
     config: RunConfig,
     whole: &Written,
-) -> Result<bool> {
-    let by_blocks = write_blocks::<H>(alloc, items, cuts, config)?;
-    Ok(by_blocks.0 == whole.0 && by_blocks.1 == whole.1)
-}
-
-/// Returns the text of a run.
-fn text_of_run(alloc: Global, run: &Written) -> Result<String> {
-    let (text, len) = (text_of(alloc, &run.0)?, run.1.len());
-    Ok(format!(in alloc; "{len} bytes, {text}")?)
+    case: &mut Case<'_>,
+) -> bool {
+    match write_blocks::<H>(case.alloc, items, cuts, config) {
+        Ok(by_blocks) => by_blocks.0 == whole.0 && by_blocks.1 == whole.1,
+        Err(fault) => {
+            case.note(fault);
+            false
+        }
+    }
 }
 
 /// Makes a run that of the room, if it is the same block by block.
-fn keep(alloc: Global, room: &mut Room, run: Written, is_same: bool) -> Result<String> {
-    let text = text_of_run(alloc, &run)?;
-    if !is_same {
-        return Ok(format!(in alloc; "{text}, otherwise block by block")?);
+fn keep(room: &mut Room, run: Written, is_same: bool, case: &mut Case<'_>) {
+    let (handles, bytes) = run;
+    case.put_count(bytes.len(), " bytes, ");
+    put_handles(&handles, case);
+    if is_same {
+        room.payload = bytes;
+        room.places = Some(handles);
+    } else {
+        case.put(", otherwise block by block");
     }
-    room.payload = run.1;
-    room.places = Some(run.0);
-    Ok(text)
+}
+
+/// Writes the list as a run, at once and block by block.
+fn write_list<H: BlockHash>(
+    room: &mut Room,
+    cuts: &[usize],
+    config: RunConfig,
+    case: &mut Case<'_>,
+) {
+    match write_whole::<H>(case.alloc, room.entries.as_slice(), cuts, config) {
+        Ok(run) => {
+            let items = room.entries.as_slice();
+            let is_same = is_same_by_blocks::<H>(items, cuts, config, &run, case);
+            keep(room, run, is_same, case);
+        }
+        Err(fault) => case.note(fault),
+    }
 }
 
 /// Writes the list as a run, at once and block by block: INTERVAL NUM DEN BITS INDEX_INTERVAL CUT
 /// ..
-fn write<H: BlockHash>(alloc: Global, room: &mut Room, words: &[&str]) -> Result<String> {
-    let Some((form, cuts)) = words.split_at_checked(5) else {
-        return Err(Fault::Word);
-    };
-    let config = config_of(form)?;
-    let cuts = numbers_of(alloc, cuts)?;
-    let (run, is_same) = written::<H>(alloc, room.entries.as_slice(), cuts.as_slice(), config)?;
-    keep(alloc, room, run, is_same)
+fn write<H: BlockHash>(room: &mut Room, case: &mut Case<'_>) {
+    let config = config_of(case);
+    let cuts = numbers_of(case);
+    if case.is_sound() {
+        write_list::<H>(room, cuts.as_slice(), config, case);
+    }
 }
 
 /// Whether cuts fit a list of a length: LENGTH CUT ..
-fn fits(alloc: Global, words: &[&str]) -> Result<String> {
-    let [len, cuts @ ..] = words else {
-        return Err(Fault::Word);
-    };
-    let fits = cuts_fit(
-        number_of(len)? as usize,
-        numbers_of(alloc, cuts)?.as_slice(),
-    );
-    Ok(format!(in alloc; "{fits}")?)
+fn fits(case: &mut Case<'_>) {
+    let len = case.number() as usize;
+    let cuts = numbers_of(case);
+    case.put_truth(cuts_fit(len, cuts.as_slice()));
 }
 
-/// Returns the entries of some words.
-fn entries_of(alloc: Global, words: &[&str]) -> Result<Vec<InternalValue>> {
-    let mut entries = Vec::new(alloc);
-    for word in words {
-        entries.push(entry_of(alloc, word)?)?;
-    }
-    Ok(entries)
-}
-
-/// Adds entries as the first block, if they can be that, and returns how many blocks there are, and
-/// whether other entries can be the next one.
-fn followed<H: BlockHash>(
+/// Adds entries as the first block, if they can be that: how many blocks there are, and whether
+/// other entries can be the next one.
+fn put_followed<H: BlockHash>(
     writer: &mut RunWriter<H, Vec<u8>>,
     items: &[InternalValue],
     next: &[InternalValue],
-) -> Result<(usize, bool)> {
-    if writer.fits_after(items) {
-        writer.add_block(items)?;
+    case: &mut Case<'_>,
+) {
+    if writer.fits_after(items)
+        && let Err(error) = writer.add_block(items)
+    {
+        case.refuse(error);
     }
-    Ok((writer.block_count(), writer.fits_after(next)))
-}
-
-/// The same, of a new writer.
-fn followed_in_new<H: BlockHash>(
-    alloc: Global,
-    items: &[InternalValue],
-    next: &[InternalValue],
-) -> Result<(usize, bool)> {
-    let config = RunConfig::new(1, HashRatio { num: 0, den: 1 }, 10);
-    let mut writer: RunWriter<H, Vec<u8>> = RunWriter::new(alloc, Vec::new(alloc), config);
-    followed::<H>(&mut writer, items, next)
+    case.put_display(&writer.block_count());
+    case.put(" blocks, ");
+    case.put_truth(writer.fits_after(next));
 }
 
 /// Whether entries can be the block after that of the list, which is added first if it can be the
 /// first one: ENTRY ..
-fn follows<H: BlockHash>(alloc: Global, room: &Room, words: &[&str]) -> Result<String> {
-    let next = entries_of(alloc, words)?;
-    let (count, fits) = followed_in_new::<H>(alloc, room.entries.as_slice(), next.as_slice())?;
-    Ok(format!(in alloc; "{count} blocks, {fits}")?)
+fn follows<H: BlockHash>(room: &Room, case: &mut Case<'_>) {
+    let next = case.entries();
+    let config = RunConfig::new(1, HashRatio { num: 0, den: 1 }, 10);
+    let to = Vec::new(case.alloc);
+    let mut writer: RunWriter<H, Vec<u8>> = RunWriter::new(case.alloc, to, config);
+    put_followed::<H>(&mut writer, room.entries.as_slice(), next.as_slice(), case);
 }
 
 /// Performs a command, if it is one that writes runs.
-pub fn perform<H: BlockHash>(
-    alloc: Global,
-    room: &mut Room,
-    name: &str,
-    words: &[&str],
-) -> Option<Result<String>> {
-    Some(match name {
-        "run" => write::<H>(alloc, room, words),
-        "fits" => fits(alloc, words),
-        "follows" => follows::<H>(alloc, room, words),
-        _ => return None,
-    })
+pub fn perform<H: BlockHash>(room: &mut Room, name: &str, case: &mut Case<'_>) -> bool {
+    match name {
+        "run" => write::<H>(room, case),
+        "fits" => fits(case),
+        "follows" => follows::<H>(room, case),
+        _ => return false,
+    }
+    true
 }

@@ -1,5 +1,5 @@
 use Rattle.std.proofs.Common.{◌≡◌}
-use Rattle.sst_block_cases.proofs.data_blocks.reads.by_items.Given as goal
+use Rattle.sst_block_cases.proofs.data_blocks.reads.put_items.Given as goal
 
 abbrev pub invariant-loop-item : goal.invariant-loop-item
 invariant-loop-item g l = record {
