@@ -51,7 +51,10 @@ fn frame<H: BlockHash>(room: &mut Room, case: &mut Case<'_>) {
     match Block::write_into::<H, Vec<u8>>(&mut frame, room.payload.as_slice(), kind) {
         Ok(header) => {
             put_header(&header, case);
-            room.payload = frame;
+            // (what is performed again begins with the same payload)
+            if case.is_sound() {
+                room.payload = frame;
+            }
         }
         Err(error) => case.refuse(error),
     }

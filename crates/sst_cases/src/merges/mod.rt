@@ -59,10 +59,9 @@ fn source<H: BlockHash>(room: &mut Room, case: &mut Case<'_>) {
         case.note(Fault::Word);
         return;
     }
-    let count = list.len();
+    case.put_count(room.sources.len().saturating_add(1), " sources, ");
+    case.put_count(list.len(), " entries");
     case.push(&mut room.sources, list);
-    case.put_count(room.sources.len(), " sources, ");
-    case.put_count(count, " entries");
 }
 
 /// The front of an entry with a key, of at most 65535 bytes and at least one.
