@@ -36,29 +36,6 @@ impl<H: BlockHash> Cached for DataBlock<H> {
     }
 }
 
-// The first match in the block in a range of a table's source, which was looked up and found.
-fn read_kept<H: BlockHash>(
-    alloc: Global,
-    cache: &BlockCache<H>,
-    number: u64,
-    range: &BlockHandle,
-    needle: &[u8],
-    seqno: SeqNo,
-    steps: &mut Steps,
-) -> Result<Option<InternalValue>>
-    requires kept { IsSome (kept_at cache.now.kept (place_at number range.now)) }
-    requires latest { IsLatest cache.now.kept (place_at number range.now) }
-    ensures read { IfSome (slice_get cache.now.tables number)
-        (λ o. IsReadOf (hashes H.hash64 H.hash128) o range.now needle.now seqno ⊥ ⊥ result
-        steps.old steps.new) }
-    ensures memory { IsOkUnless result Error.Memory }
-{
-    match cache.latest() {
-        Some(block) => block.point_read(alloc, needle, seqno, steps),
-        None => unreachable!(),
-    }
-}
-
 // The first match in the block in a range of a table's source, which is not kept: it is read, and
 // kept then.
 fn read_new<H: BlockHash, S: FrameSource>(
@@ -110,42 +87,13 @@ fn read_range<H: BlockHash, S: FrameSource>(
         (kept_at cache.old.kept (place_at number range.now)) result cache.new }
 {
     if cache.look_up(number, range) {
-        return read_kept(alloc, cache, number, range, needle, seqno, steps);
-    }
-    read_new(alloc, source, cache, number, range, needle, seqno, steps)
-}
-
-// The first match in the data block of a handle of a run, which is read only where it is not kept.
-fn read_block_through<H: BlockHash, S: FrameSource>(
-    alloc: Global,
-    source: &mut S,
-    place: &RunPlace,
-    cache: &mut BlockCache<H>,
-    number: u64,
-    handle: &BlockHandle,
-    needle: &[u8],
-    seqno: SeqNo,
-    steps: &mut Steps,
-) -> Result<Option<InternalValue>>
-    requires placed { IsPlaced place.now (S.bytes source.old) }
-    requires added { slice_get cache.old.tables number ≡ Some (S.bytes source.old) }
-    ensures source { UsesSource S.bytes S.failures S.reads S.is_reliable
-        (AsksExactly (block_frames cache.old.kept number (frame_of place.now handle.now)))
-        source.old source.new result }
-    ensures exact { IfSome (placed S.bytes place.now source.old)
-        (λ all. (h : Option Handle) → Some handle.now ≡ option_map range_of h
-        → GivesOr (S.failures source.old < S.failures source.new) (S.is_reliable source.old)
-        (λ x. x) result (read_block (hashes H.hash64 H.hash128) all h needle.now seqno)) }
-    ensures counts { IfSome (placed S.bytes place.now source.old)
-        (λ all. (h : Option Handle) → Some handle.now ≡ option_map range_of h
-        → CountsBetween steps.old steps.new (0, 0) (digits (heads_at all h), entries_at all h)) }
-    ensures counts_grow { CountsGrow steps.old steps.new }
-    ensures cache { ReadsBlock (hashes H.hash64 H.hash128) cache.old number
-        (frame_of place.now handle.now) result cache.new }
-{
-    match place.frame(handle) {
-        None => Err(Error::BadHandle),
-        Some(range) => read_range(alloc, source, cache, number, &range, needle, seqno, steps),
+        // (each function that passes a result on moves it)
+        match cache.latest() {
+            Some(block) => block.point_read(alloc, needle, seqno, steps),
+            None => unreachable!(),
+        }
+    } else {
+        read_new(alloc, source, cache, number, range, needle, seqno, steps)
     }
 }
 
@@ -182,7 +130,8 @@ pub(crate) fn get_through<H: BlockHash, S: FrameSource>(
     let Some(handle) = run.find_block(needle, seqno, steps) else {
         return Ok(None);
     };
-    read_block_through(
-        alloc, source, place, cache, number, &handle, needle, seqno, steps,
-    )
+    match place.frame(&handle) {
+        None => Err(Error::BadHandle),
+        Some(range) => read_range(alloc, source, cache, number, &range, needle, seqno, steps),
+    }
 }

@@ -60,10 +60,9 @@ module _ (c : Hashes) (needle : List ℕ) (seqno : ℕ) where
   }
 
   -- of one that is kept
-  pub kept_read : (x : Option (Option (List ℕ))) (h : HandleParts) (b : DataBlockParts) (least : ℕ × ℕ) (r : Result (Option Entry) Error) (t u : Counted) → IsSomeAnd x (λ o. IsBlockOf c o h b) → IfOk r (λ item. item ≡ first_match entries needle seqno b.items) → IsOkUnless r Memory
-      → CountsBetween t u least (read_most c.hash64 b needle) → IfSome x (λ o. IsReadOf c o h needle seqno ⊥ ⊥ r t u)
-  kept_read None h b least r t u is found memory counts = tt
-  kept_read (Some o) h b least r t u is found memory counts = block_read o h ⊥ ⊥ b least r t u is found memory counts
+  pub kept_read : (x : Option (Option (List ℕ))) (o : Option (List ℕ)) (h : HandleParts) (P R : Type 0) (b : DataBlockParts) (least : ℕ × ℕ) (r : Result (Option Entry) Error) (t u : Counted) → x ≡ Some o → IsSomeAnd x (λ o. IsBlockOf c o h b)
+      → IfOk r (λ item. item ≡ first_match entries needle seqno b.items) → IsOkUnless r Memory → CountsBetween t u least (read_most c.hash64 b needle) → IsReadOf c o h needle seqno P R r t u
+  kept_read x o h P R b least r t u same is = block_read o h P R b least r t u (subst (λ y. IsSomeAnd y (λ o. IsBlockOf c o h b)) same is)
 
   -- of one that is refused
   refused_exact : (o : Option (List ℕ)) (h : HandleParts) (P R : Type 0) (e : Error) → IfSome o (λ all. FailsAs P R (block_items_at c all h) e) → IfSome o (λ all. FailsAs P R (first_at c all h needle seqno) e)

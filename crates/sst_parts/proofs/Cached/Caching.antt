@@ -188,6 +188,11 @@ put_first {V} c place b none cap few =
     take_all zero (x ∷ xs) le = absurd (omega (arith, le))
     take_all (suc n) (x ∷ xs) le = ap (λ ys. x ∷ ys) (take_all n xs (omega (arith, le)))
 
+-- a look-up leaves the tables
+pub looked_up_tables : {V : Type 0} (v : CacheParts V) (place : Place) (o : Option V) → (looked_up v place o).tables ≡ v.tables
+looked_up_tables v place None = refl
+looked_up_tables v place (Some b) = refl
+
 -- a look-up that finds its block, and one that does not
 pub looked_up_found : {V : Type 0} (v : CacheParts V) (place : Place) (o : Option V) → kept_at v.kept place ≡ o → is_some o ≡ true → record v { kept = promoted (is_place place) v.kept; hits = one_more v.hits } ≡ looked_up v place o
 looked_up_found v place None at some = cc
