@@ -1,30 +1,25 @@
-//! Printing entries of a block through a buffer of fixed size. Nothing is allocated but the buffer,
-//! so a block is printed whole unless the output fails.
+//! Printing entries through a buffer of fixed size. Nothing is allocated but the buffer, so a block
+//! is printed whole unless the output fails.
 ghost use Rattle.std.specs.Prelude.{◌≡◌, ◌⊎◌, ◌≤◌, [], ◌∷◌, ◌++◌, length, OnOk, IfErr, IsOkUnless};
 ghost use Rattle.std.specs.Io.KnownBytes.{Appends, Keeps};
 ghost use Rattle.std.specs.Fmt.{decimal};
 ghost use Rattle.hex.specs.Hex.{encode_lower};
 ghost use Rattle.sst_program.specs.Line.{letter_of, byte_text_of, entry_line_of};
 ghost use Rattle.sst_program.specs.Outcome.{Puts, lines_text_of};
-ghost use Rattle.sstable_blocks.specs.Prelude.{optional_range, IsOptionalRange, entry_of};
-ghost use Rattle.sstable_blocks.specs.Prelude.{IsParsedEntry};
 ghost use Rattle.sstable_blocks.specs.Results.{Io, Memory};
 
 use crate::lines::letter_of;
 use crate::output::print_text;
 use itoa::Buffer;
-use sstable_blocks::table::block::key_ranges::bytes_of;
-use sstable_blocks::table::data_block::DataBlockParsedItem;
-use sstable_blocks::table::util::SliceIndexes;
-use sstable_blocks::{DataBlock, Error, Poly31, Result, SeqNo, ValueType};
+use sstable_blocks::{DataBlock, EntryView, Error, Poly31, Result, SeqNo, ValueType};
 use std::alloc::Global;
 use std::io::Write;
 
-// The number of bytes that wait to be printed, at most.
-const BUFFER_LEN: usize = 65536;
+/// The number of bytes that wait to be printed, at most.
+pub const BUFFER_LEN: usize = 65536;
 
 // The number of bytes that are made hex at once, and of their digits.
-const PART_LEN: usize = 256;
+const PART_LEN: usize = 64;
 
 const DIGITS_LEN: usize = 2 * PART_LEN;
 
@@ -48,7 +43,7 @@ fn put<O: Write>(buffer: &mut Vec<u8>, output: &mut O, bytes: &[u8]) -> Result<(
 
 // Puts a few bytes in lower-case hex.
 fn put_part<O: Write>(buffer: &mut Vec<u8>, output: &mut O, part: &[u8]) -> Result<()>
-    requires { length part.now ≤ 256 }
+    requires { length part.now ≤ 64 }
     ensures put { OnOk result (Puts (O.contents output.old) buffer.old.items
         (O.contents output.new) buffer.new.items (encode_lower part.now)) }
     ensures io { IsOkUnless result Error.Io }
@@ -94,32 +89,15 @@ fn put_front<O: Write>(
     put(buffer, output, b" ")
 }
 
-// The bytes of a range, and none where there is no range.
-fn optional_bytes<'a>(payload: &'a [u8], range: &Option<SliceIndexes>) -> &'a [u8]
-    requires { IsOptionalRange payload.now range.now }
-    ensures { result.now ≡ optional_range payload.now range.now }
-{
-    match range {
-        Some(range) => bytes_of(payload, range),
-        None => &[],
-    }
-}
-
 // Puts the key of an entry.
-fn put_key<O: Write>(
-    buffer: &mut Vec<u8>,
-    output: &mut O,
-    payload: &[u8],
-    item: &DataBlockParsedItem,
-) -> Result<()>
-    requires { IsParsedEntry payload.now item.now }
+fn put_key<O: Write>(buffer: &mut Vec<u8>, output: &mut O, entry: &EntryView<'_>) -> Result<()>
     ensures put { OnOk result (Puts (O.contents output.old) buffer.old.items
-        (O.contents output.new) buffer.new.items
-        (encode_lower (entry_of payload.now item.now).key.user_key)) }
+        (O.contents output.new) buffer.new.items (encode_lower entry.now.key.user_key)) }
     ensures io { IsOkUnless result Error.Io }
 {
-    put_hex(buffer, output, optional_bytes(payload, &item.prefix))?;
-    put_hex(buffer, output, bytes_of(payload, &item.key))?;
+    let (prefix, rest) = entry.key_parts();
+    put_hex(buffer, output, prefix)?;
+    put_hex(buffer, output, rest)?;
     Ok(())
 }
 
@@ -135,23 +113,21 @@ fn put_value<O: Write>(buffer: &mut Vec<u8>, output: &mut O, value: &[u8]) -> Re
     put_hex(buffer, output, value)
 }
 
-// Puts the line of an entry, with its line feed.
-fn put_entry<O: Write>(
-    buffer: &mut Vec<u8>,
-    output: &mut O,
-    payload: &[u8],
-    item: &DataBlockParsedItem,
-) -> Result<()>
-    requires { IsParsedEntry payload.now item.now }
+/// Puts the line of an entry, with its line feed, after the bytes that wait in a buffer to be
+/// printed. Where they do not fit, they are printed. The buffer does not grow.
+///
+/// # Errors
+///
+/// `Error::Io` if the output fails. It may then hold a part of the line.
+pub fn put_line<O: Write>(buffer: &mut Vec<u8>, output: &mut O, entry: &EntryView<'_>) -> Result<()>
     ensures put { OnOk result (Puts (O.contents output.old) buffer.old.items
-        (O.contents output.new) buffer.new.items
-        (entry_line_of (entry_of payload.now item.now) ++ (10 ∷ []))) }
+        (O.contents output.new) buffer.new.items (entry_line_of entry.now ++ (10 ∷ []))) }
     ensures io { IsOkUnless result Error.Io }
 {
-    put_front(buffer, output, item.value_type, item.seqno)?;
-    put_key(buffer, output, payload, item)?;
+    put_front(buffer, output, entry.value_type(), entry.seqno())?;
+    put_key(buffer, output, entry)?;
     put(buffer, output, b" ")?;
-    put_value(buffer, output, optional_bytes(payload, &item.value))?;
+    put_value(buffer, output, entry.value())?;
     put(buffer, output, b"\n")?;
     Ok(())
 }
@@ -168,7 +144,7 @@ fn put_entries<O: Write>(
 {
     let payload = block.as_slice().as_slice();
     for item in block.iter() {
-        put_entry(buffer, output, payload, &item)?;
+        put_line(buffer, output, &EntryView::new(payload, item))?;
     }
     Ok(())
 }

@@ -6,6 +6,7 @@ pub mod Keys
 pub mod Limits
 pub mod Merged
 pub mod Orders
+pub mod Printed
 pub mod Probes
 pub mod Statuses
 pub mod Wanted

@@ -1,9 +1,9 @@
 //! `scan`: the entries of a table in a range of keys.
 ghost use Rattle.std.specs.Prelude.{◌≡◌, None, IfSome, OnOk};
 ghost use Rattle.std.specs.Io.KnownBytes.{Appends};
-ghost use Rattle.std.specs.Io.Buffered.{writer_contents};
 ghost use Rattle.sst_program.specs.Outcome.{lines_text_of};
 ghost use Rattle.sst_tool.specs.Limits.{limited};
+ghost use Rattle.sst_tool.specs.Printed.{printed_in};
 ghost use Rattle.sst_tool.specs.Wanted.{wanted_of};
 
 use crate::fault::{Fault, Result};
@@ -55,11 +55,11 @@ fn print_all<I: Source<InternalValue>, O: Write + Drop>(
 ) -> std::result::Result<(), Stop>
     ensures printed { OnOk result (lines.old.form ≡ None
         → IfSome (I.left source.old).list (λ items.
-        Appends (writer_contents O.contents lines.old.output)
-        (writer_contents O.contents lines.new.output) (lines_text_of items))) }
+        Appends (printed_in O.contents lines.old) (printed_in O.contents lines.new)
+        (lines_text_of items))) }
 {
     while let Some(entry) = source.next_entry(alloc)? {
-        lines.print(alloc, &entry)?;
+        lines.print(&entry)?;
     }
     Ok(())
 }
@@ -99,8 +99,8 @@ fn print_limited<I: Source<InternalValue> + Drop, O: Write + Drop>(
 ) -> std::result::Result<(), Stop>
     ensures printed { OnOk result (lines.old.form ≡ None
         → IfSome (limited limit (I.left source)).list (λ items.
-        Appends (writer_contents O.contents lines.old.output)
-        (writer_contents O.contents lines.new.output) (lines_text_of items))) }
+        Appends (printed_in O.contents lines.old) (printed_in O.contents lines.new)
+        (lines_text_of items))) }
 {
     print_all(alloc, &mut Limited::new(source, limit), lines)
 }
@@ -114,8 +114,8 @@ fn print_scanned<I: Source<InternalValue> + Drop, O: Write + Drop>(
 ) -> std::result::Result<(), Stop>
     ensures printed { OnOk result (lines.old.form ≡ None
         → IfSome (wanted_of wanted (I.left source)).list (λ items.
-        Appends (writer_contents O.contents lines.old.output)
-        (writer_contents O.contents lines.new.output) (lines_text_of items))) }
+        Appends (printed_in O.contents lines.old) (printed_in O.contents lines.new)
+        (lines_text_of items))) }
 {
     match (wanted.at, wanted.direction) {
         (None, _) => print_limited(alloc, wanted.limit, source, lines),

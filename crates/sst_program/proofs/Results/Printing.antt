@@ -5,6 +5,7 @@ use Rattle.std.specs.Io.KnownBytes.{append_known}
 use Rattle.std.proofs.KnownBytes.{Appends-nil, Appends-trans}
 use Rattle.hex.specs.Hex.{encode_with, encode_lower, lower_digits}
 use Rattle.sstable_blocks.specs.Prelude.{Entry, Scan, GivesScanned, Window, items_left, whole, entry_of, IsParsedEntry, DataBlockParsedItem}
+use Rattle.sstable_blocks.specs.ValueTypes.{ValueType}
 use Rattle.sstable_blocks.specs.BlockLaws.{next_some, next_none, items_left-whole}
 use Rattle.sst_program.specs.Line.{entry_line_of, letter_of, byte_text_of}
 use Rattle.sst_program.specs.Outcome.{Puts, lines_text_of}
@@ -57,18 +58,20 @@ nothing-left (b ∷ rest) h = let none : length (b ∷ rest) ≡ 0 = none-from_t
 pub encode-over : (rest : List ℕ) → true ≡ nat_eq (length rest) 0 → encode_lower rest ≡ []
 encode-over rest h = ap (λ t. encode_lower t) (nothing-left rest h) ∙ encode-empty
 
--- a key of two ranges
-pub puts_joined : (a b c : Option (List ℕ)) (u v w p q p' q' : List ℕ) → Puts a u b v (encode_lower p) → Puts b v c w (encode_lower q) → p ≡ p' → q ≡ q' → Puts a u c w (encode_lower (p' ++ q'))
-puts_joined a b c u v w p q p' q' first second e f =
-    subst (Puts a u c w) (sym (encode-cut (p' ++ q') p q (ap (λ t. t ++ q') (sym e) ∙ ap (λ t. p ++ t) (sym f)))) (puts_then a b c u v w (encode_lower p) (encode_lower q) first second)
+-- a key in two parts
+pub puts_joined : (a b c : Option (List ℕ)) (u v w p q whole : List ℕ) → Puts a u b v (encode_lower p) → Puts b v c w (encode_lower q) → p ++ q ≡ whole → Puts a u c w (encode_lower whole)
+puts_joined a b c u v w p q whole first second e =
+    subst (Puts a u c w) (sym (encode-cut whole p q (sym e))) (puts_then a b c u v w (encode_lower p) (encode_lower q) first second)
 
 -- the parts of a line
-pub puts_line : (e : Entry) (value : List ℕ) (a b c d f h : Option (List ℕ)) (u v w x y z : List ℕ)
-    → Puts a u b v ((letter_of e.key.value_type ∷ 32 ∷ []) ++ decimal e.key.seqno ++ (32 ∷ [])) → Puts b v c w (encode_lower e.key.user_key) → Puts c w d x (32 ∷ [])
-    → Puts d x f y (byte_text_of value) → value ≡ e.value → Puts f y h z (10 ∷ []) → Puts a u h z (entry_line_of e ++ (10 ∷ []))
-puts_line e value a b c d f h u v w x y z front key space text same feed =
+pub puts_line : (e : Entry) (type : ValueType) (seqno : ℕ) (value : List ℕ) (a b c d f h : Option (List ℕ)) (u v w x y z : List ℕ)
+    → Puts a u b v ((letter_of type ∷ 32 ∷ []) ++ decimal seqno ++ (32 ∷ [])) → type ≡ e.key.value_type → seqno ≡ e.key.seqno
+    → Puts b v c w (encode_lower e.key.user_key) → Puts c w d x (32 ∷ []) → Puts d x f y (byte_text_of value) → value ≡ e.value → Puts f y h z (10 ∷ []) → Puts a u h z (entry_line_of e ++ (10 ∷ []))
+puts_line e type seqno value a b c d f h u v w x y z front same_type same_seqno key space text same feed =
+    let start = subst (λ t. Puts a u b v ((letter_of t ∷ 32 ∷ []) ++ decimal e.key.seqno ++ (32 ∷ []))) same_type
+    (subst (λ n. Puts a u b v ((letter_of type ∷ 32 ∷ []) ++ decimal n ++ (32 ∷ []))) same_seqno front) in
     let line = subst (λ t. Puts d x f y (byte_text_of t)) same text in
-    puts_then a f h u y z _ _ (puts_then a d f u x y _ _ (puts_then a c d u w x _ _ (puts_then a b c u v w _ _ front key) space) line) feed
+    puts_then a f h u y z _ _ (puts_then a d f u x y _ _ (puts_then a c d u w x _ _ (puts_then a b c u v w _ _ start key) space) line) feed
 
 -- a step of the iterator over a block: the line of its entry, and those left
 pub lines_step : (s t : Scan Entry) (p : DataBlockParsedItem) → GivesScanned entry_of IsParsedEntry s (Some p) t
@@ -84,8 +87,8 @@ pub lines_over : (s t : Scan Entry) → GivesScanned entry_of IsParsedEntry s No
 lines_over s t gives = ap lines_text_of (next_none s.window t.window gives.step).0
 
 -- the line of an entry, put after those before it
-pub puts_entry : (s t : Scan Entry) (p : DataBlockParsedItem) (a b c : Option (List ℕ)) (u v w payload all : List ℕ) → PutsTo a u b v (lines_text_of (items_left s.window)) all
-    → Puts b v c w (entry_line_of (entry_of payload p) ++ (10 ∷ [])) → s.payload ≡ payload → GivesScanned entry_of IsParsedEntry s (Some p) t → PutsTo a u c w (lines_text_of (items_left t.window)) all
-puts_entry s t p a b c u v w payload all before line same gives =
+pub puts_entry : (s t : Scan Entry) (p : DataBlockParsedItem) (e : Entry) (a b c : Option (List ℕ)) (u v w payload all : List ℕ) → PutsTo a u b v (lines_text_of (items_left s.window)) all
+    → Puts b v c w (entry_line_of e ++ (10 ∷ [])) → e ≡ entry_of payload p → s.payload ≡ payload → GivesScanned entry_of IsParsedEntry s (Some p) t → PutsTo a u c w (lines_text_of (items_left t.window)) all
+puts_entry s t p e a b c u v w payload all before line is same gives =
     puts_next a b c u v w (lines_text_of (items_left s.window)) (lines_text_of (items_left t.window)) (entry_line_of (entry_of s.payload p) ++ (10 ∷ [])) all before
-    (subst (λ q. Puts b v c w (entry_line_of (entry_of q p) ++ (10 ∷ []))) (sym same) line) (lines_step s t p gives)
+    (subst (λ q. Puts b v c w (entry_line_of q ++ (10 ∷ []))) (is ∙ ap (λ q. entry_of q p) (sym same)) line) (lines_step s t p gives)

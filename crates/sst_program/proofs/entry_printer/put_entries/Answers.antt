@@ -15,7 +15,7 @@ loop-item-preserved g c =
     let steps = c.in-Some.ensures.steps in
     record {
       payload = steps.payload ∙ c.loop-item.invariant.payload;
-      puts = puts_entry _ _ c.in-Some.item _ _ _ _ _ _ _ _ c.loop-item.invariant.puts c.in_ok-put_entry.ensures.put c.loop-item.invariant.payload steps;
+      puts = puts_entry _ _ c.in-Some.item c.new.result _ _ _ _ _ _ _ _ c.loop-item.invariant.puts c.in_ok-put_line.ensures.put c.new.ensures c.loop-item.invariant.payload steps;
     }
 
 pub returns-clause-put : goal.returns-clause-put

@@ -1,5 +1,5 @@
 use Rattle.std.proofs.Common.{◌≡◌, None}
-use Rattle.std.specs.Io.Buffered.{writer_contents}
+use Rattle.sst_tool.specs.Printed.{printed_in}
 use Rattle.sst_tool.proofs.Printing.Printed.{HasPrintedFront}
 use Rattle.sst_tool.proofs.scan.print_all.Given as goal
 
@@ -9,5 +9,5 @@ decreases-loop-entry g l = (g.I.Source.left l.source).most
 abbrev pub invariant-loop-entry : goal.invariant-loop-entry
 invariant-loop-entry g l = record {
   form : l.lines.form ≡ l.initial.lines.form;
-  printed : l.initial.lines.form ≡ None → HasPrintedFront (g.I.Source.left l.initial.source).list (g.I.Source.left l.source).list (writer_contents g.O.Write.contents l.initial.lines.output) (writer_contents g.O.Write.contents l.lines.output);
+  printed : l.initial.lines.form ≡ None → HasPrintedFront (g.I.Source.left l.initial.source).list (g.I.Source.left l.source).list (printed_in g.O.Write.contents l.initial.lines) (printed_in g.O.Write.contents l.lines);
 }
