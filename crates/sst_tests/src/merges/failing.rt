@@ -1,8 +1,7 @@
 // Sources that fail: an error ends them, and all that is made of them.
 ghost use Rattle.std.specs.Prelude.{None};
 
-use crate::Tested;
-use crate::merges::lists::{Memory, Row, T, V, list_of, push_made};
+use crate::merges::lists::{Memory, Row, T, V, list_of};
 use sst_base::{ByteSum, Error, HashRatio, InternalValue, Output, Result, SeqNo, UserKey};
 use sst_merge::{
     Compact, Head, Merge, Ranked, Rev, Reversed, Sizes, Snapshot, Source, write_table,
@@ -57,21 +56,26 @@ const ROWS: &[Row] = &[
 ];
 
 /// A source that fails after so many steps.
-pub(crate) fn failing_after(alloc: Global, steps: usize) -> Result<Failing<Memory>> {
-    Ok(Failing {
-        source: list_of(alloc, ROWS, 0)?.into_iter(),
+pub(crate) fn failing_after(rt: &impl Abort, alloc: Global, steps: usize) -> Failing<Memory> {
+    failing_in(rt, alloc, ROWS, steps)
+}
+
+/// The same of other versions.
+fn failing_in(rt: &impl Abort, alloc: Global, rows: &[Row], steps: usize) -> Failing<Memory> {
+    Failing {
+        source: list_of(rt, alloc, rows, 0).into_iter(),
         steps,
         ended: None,
-    })
+    }
 }
 
 /// The same from the back.
-fn failing_back_after(alloc: Global, steps: usize) -> Result<Failing<Rev<Memory>>> {
-    Ok(Failing {
-        source: Rev::new(list_of(alloc, ROWS, 0)?.into_iter()),
+fn failing_back_after(rt: &impl Abort, alloc: Global, steps: usize) -> Failing<Rev<Memory>> {
+    Failing {
+        source: Rev::new(list_of(rt, alloc, ROWS, 0).into_iter()),
         steps,
         ended: None,
-    })
+    }
 }
 
 /// Whether a step gives a version.
@@ -123,113 +127,75 @@ fn counts_of<T: Drop, I: Source<T> + Drop>(alloc: Global, source: I) -> (usize, 
 
 /// The merge of a source.
 fn merge_of<T: Ranked + Drop, I: Source<T> + Drop>(
-    alloc: Global,
-    source: I,
-) -> Result<Merge<T, I>> {
-    let mut heads = Vec::new(alloc);
-    push_made(&mut heads, Head::new(alloc, source))?;
-    Ok(Merge::new(heads))
-}
-
-/// What is counted of a merge of a source that fails after so many steps.
-fn counts_merged(alloc: Global, steps: usize) -> Result<(usize, bool)> {
-    let merged: Merge<InternalValue, _> = merge_of(alloc, failing_after(alloc, steps)?)?;
-    Ok(counts_of(alloc, merged))
-}
-
-/// What is counted of a snapshot of such a source.
-fn counts_seen(alloc: Global, steps: usize) -> Result<(usize, bool)> {
-    let source = failing_after(alloc, steps)?;
-    Ok(counts_of(alloc, Snapshot::new(source, u64::MAX)))
-}
-
-/// What is counted of a compaction of such a source.
-fn counts_compacted(alloc: Global, steps: usize) -> Result<(usize, bool)> {
-    let source = failing_after(alloc, steps)?;
-    match vec![in alloc; 6] {
-        Ok(snapshots) => Ok(counts_of(alloc, Compact::new(source, snapshots, false))),
-        Err(_) => Err(Error::Memory),
-    }
-}
-
-/// Whether no merge begins with a source that fails at once.
-fn is_refused(alloc: Global) -> Result<bool> {
-    Ok(Head::new(alloc, failing_after(alloc, 0)?).is_err())
-}
-
-/// Checks what is counted of what is made of a source that fails after so many steps: of a merge,
-/// of a snapshot, and of a compaction.
-fn check_counts(
     rt: &impl Abort,
     alloc: Global,
-    steps: usize,
-    merged: usize,
-    shown: usize,
-) -> Tested {
-    assert_eq!(rt; counts_merged(alloc, steps)?, (merged, true));
-    assert_eq!(rt; counts_seen(alloc, steps)?, (shown, true));
-    assert_eq!(rt; counts_compacted(alloc, steps)?, (steps, true));
-    Ok(())
+    source: I,
+) -> Merge<T, I> {
+    let head = Head::new(alloc, source).expect(rt, "the first version");
+    Merge::new(vec![in alloc; head].expect(rt, "a source"))
 }
 
-// A merge holds the first version of each source, so it fails a step earlier.
+/// What is counted of a compaction of a source that fails.
+fn counts_compacted(
+    rt: &impl Abort,
+    alloc: Global,
+    source: Failing<Memory>,
+    snapshots: &[SeqNo],
+    bottom: bool,
+) -> (usize, bool) {
+    let snapshots = snapshots.to_vec(alloc).expect(rt, "snapshots");
+    counts_of(alloc, Compact::new(source, snapshots, bottom))
+}
+
+// Checks what is counted of what is made of a source that fails after so many steps: of a merge,
+// which holds the first version of each source, so it fails a step earlier, of a snapshot, and of a
+// compaction.
+fn check_counts(rt: &impl Abort, alloc: Global, steps: usize, shown: usize) {
+    let merged: Merge<InternalValue, _> = merge_of(rt, alloc, failing_after(rt, alloc, steps));
+    assert_eq!(rt; counts_of(alloc, merged), (steps.saturating_sub(1), true));
+    let seen = Snapshot::new(failing_after(rt, alloc, steps), u64::MAX);
+    assert_eq!(rt; counts_of(alloc, seen), (shown, true));
+    let compacted = counts_compacted(rt, alloc, failing_after(rt, alloc, steps), &[6], false);
+    assert_eq!(rt; compacted, (steps, true));
+}
+
 #[test]
-fn a_failed_step_ends_what_is_made_of_its_source(rt: HostRuntime) -> Tested {
-    assert!(rt; is_refused(rt.alloc())?);
-    for steps in 1..5 {
-        check_counts(&rt, rt.alloc(), steps, steps - 1, [1, 1, 2, 3][steps - 1])?;
+fn a_failed_step_ends_what_is_made_of_its_source(rt: HostRuntime) {
+    let alloc = rt.alloc();
+    assert!(rt; Head::new(alloc, failing_after(&rt, alloc, 0)).is_err());
+    for (steps, shown) in &[(1usize, 1usize), (2, 1), (3, 2), (4, 3)] {
+        check_counts(&rt, alloc, *steps, *shown);
     }
-    Ok(())
 }
 
 /// A tombstone, and a version of another key.
 const BURIED: &[Row] = &[Row(b'a', 5, T), Row(b'b', 4, V)];
 
-/// What is counted of a compaction of these, where one snapshot does not see the tombstone, and the
-/// source fails after so many steps.
-fn counts_ahead(alloc: Global, steps: usize) -> Result<(usize, bool)> {
-    let source = Failing {
-        source: list_of(alloc, BURIED, 0)?.into_iter(),
-        steps,
-        ended: None,
-    };
-    match vec![in alloc; 3, 7] {
-        Ok(snapshots) => Ok(counts_of(alloc, Compact::new(source, snapshots, true))),
-        Err(_) => Err(Error::Memory),
-    }
-}
-
-// The look ahead after the tombstone fails, or the step after the version that it holds.
+// One snapshot does not see the tombstone: the look ahead after it fails, or the step after the
+// version that it holds.
 #[test]
-fn a_failed_look_ahead_ends_a_compaction(rt: HostRuntime) -> Tested {
-    assert_eq!(rt; counts_ahead(rt.alloc(), 1)?, (0, true));
-    assert_eq!(rt; counts_ahead(rt.alloc(), 2)?, (1, true));
-    Ok(())
+fn a_failed_look_ahead_ends_a_compaction(rt: HostRuntime) {
+    let alloc = rt.alloc();
+    for steps in 1..3usize {
+        let source = failing_in(&rt, alloc, BURIED, steps);
+        let counted = counts_compacted(&rt, alloc, source, &[3, 7], true);
+        assert_eq!(rt; counted, (steps - 1, true));
+    }
 }
 
 /// A merge from the back of a source that fails.
 type MergeBack = Merge<Reversed<InternalValue>, Failing<Rev<Memory>>>;
 
-/// Whether no merge from the back begins with a source that fails at once.
-fn is_refused_back(alloc: Global) -> Result<bool> {
-    let merged: Result<MergeBack> = merge_of(alloc, failing_back_after(alloc, 0)?);
-    Ok(merged.is_err())
-}
-
-/// What is counted of a merge from the back of a source that fails after so many steps.
-fn counts_merged_back(alloc: Global, steps: usize) -> Result<(usize, bool)> {
-    let merged: MergeBack = merge_of(alloc, failing_back_after(alloc, steps)?)?;
-    Ok(counts_of(alloc, merged))
-}
-
 #[test]
-fn a_failed_step_ends_a_merge_from_the_back(rt: HostRuntime) -> Tested {
+fn a_failed_step_ends_a_merge_from_the_back(rt: HostRuntime) {
     let alloc = rt.alloc();
-    assert!(rt; is_refused_back(alloc)?);
-    for steps in 1..5 {
-        assert_eq!(rt; counts_merged_back(alloc, steps)?, (steps - 1, true));
+    assert!(rt;
+        Head::<Reversed<InternalValue>, _>::new(alloc, failing_back_after(&rt, alloc, 0)).is_err()
+    );
+    for steps in 1..5usize {
+        let merged: MergeBack = merge_of(&rt, alloc, failing_back_after(&rt, alloc, steps));
+        assert_eq!(rt; counts_of(alloc, merged), (steps - 1, true));
     }
-    Ok(())
 }
 
 /// How many versions a merge passes before it fails.
@@ -281,19 +247,14 @@ fn keeps<I: Source<InternalValue> + Drop>(
         && counts(alloc, &mut merged, Error::Io) == (0, true)
 }
 
-/// The same of the merge of such a source.
-fn is_kept(alloc: Global, steps: usize, seqno: SeqNo) -> Result<bool> {
-    let merged = merge_of(alloc, failing_after(alloc, steps)?)?;
-    Ok(keeps(alloc, merged, steps, seqno))
-}
-
 // The version that the step was to pass is still shown.
 #[test]
-fn a_version_is_not_passed_by_a_failed_step(rt: HostRuntime) -> Tested {
-    for steps in 1..5 {
-        assert!(rt; is_kept(rt.alloc(), steps, ROWS[steps - 1].1)?, "{steps}");
+fn a_version_is_not_passed_by_a_failed_step(rt: HostRuntime) {
+    let alloc = rt.alloc();
+    for steps in 1..5usize {
+        let merged = merge_of(&rt, alloc, failing_after(&rt, alloc, steps));
+        assert!(rt; keeps(alloc, merged, steps, ROWS[steps - 1].1), "{steps}");
     }
-    Ok(())
 }
 
 /// A writer that fails.
@@ -340,54 +301,35 @@ fn has_ended<I: Source<InternalValue>>(
     taken == wanted && passed == wanted && table == wanted
 }
 
-/// The error of writing a table of a source, and whether the source has then ended with this one.
-fn ends_with<I: Source<InternalValue>, W: Output + Drop>(
-    alloc: Global,
-    source: &mut Head<InternalValue, I>,
-    writer: W,
-    wanted: Error,
-) -> (Option<Error>, bool) {
-    let found = written(alloc, source, writer).err();
-    (found, has_ended(alloc, source, wanted))
-}
-
-/// The same of a source that is let go.
-fn ends_by<I: Source<InternalValue> + Drop, W: Output + Drop>(
+// Checks that writing a table of a source fails with an error, and that this one has then ended the
+// source.
+fn check_ends<I: Source<InternalValue> + Drop, W: Output + Drop>(
+    rt: &impl Abort,
     alloc: Global,
     source: I,
     writer: W,
     wanted: Error,
-) -> Result<(Option<Error>, bool)> {
-    match Head::new(alloc, source) {
-        Ok(mut source) => Ok(ends_with(alloc, &mut source, writer, wanted)),
-        Err(error) => Err(error),
-    }
-}
-
-/// What ends a source whose table is written to an output that fails.
-fn ends_by_output(alloc: Global) -> Result<(Option<Error>, bool)> {
-    let list = list_of(alloc, ROWS, 0)?;
-    ends_by(alloc, list.into_iter(), Full, Error::Io)
-}
-
-/// What ends a source that is out of order.
-fn ends_by_order(alloc: Global) -> Result<(Option<Error>, bool)> {
-    let list = list_of(alloc, &[Row(b'b', 1, V), Row(b'a', 1, V)], 0)?;
-    ends_by(alloc, list.into_iter(), Vec::new(alloc), Error::OutOfOrder)
-}
-
-/// What ends a source that fails.
-fn ends_by_source(alloc: Global) -> Result<(Option<Error>, bool)> {
-    let source = failing_after(alloc, 2)?;
-    ends_by(alloc, source, Vec::new(alloc), Error::Io)
+) {
+    let mut source = Head::new(alloc, source).expect(rt, "the first version");
+    assert!(rt; written(alloc, &mut source, writer).err() == Some(wanted));
+    assert!(rt; has_ended(alloc, &mut source, wanted));
 }
 
 // Entries are taken for a block before it is written, so none of them is given again.
 #[test]
-fn a_table_that_is_not_written_ends_its_source(rt: HostRuntime) -> Tested {
+fn a_table_that_is_not_written_ends_its_source(rt: HostRuntime) {
     let alloc = rt.alloc();
-    assert_eq!(rt; ends_by_output(alloc)?, (Some(Error::Io), true));
-    assert_eq!(rt; ends_by_order(alloc)?, (Some(Error::OutOfOrder), true));
-    assert_eq!(rt; ends_by_source(alloc)?, (Some(Error::Io), true));
-    Ok(())
+    let list = list_of(&rt, alloc, ROWS, 0);
+    check_ends(&rt, alloc, list.into_iter(), Full, Error::Io);
+    let turned = [Row(b'b', 1, V), Row(b'a', 1, V)];
+    let list = list_of(&rt, alloc, &turned, 0);
+    check_ends(
+        &rt,
+        alloc,
+        list.into_iter(),
+        Vec::new(alloc),
+        Error::OutOfOrder,
+    );
+    let source = failing_after(&rt, alloc, 2);
+    check_ends(&rt, alloc, source, Vec::new(alloc), Error::Io);
 }

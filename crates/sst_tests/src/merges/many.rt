@@ -1,28 +1,22 @@
 // A merge of many sources.
-use crate::Tested;
-use crate::merges::lists::{Memory, Row, V, list_of, push_made};
+use crate::merges::lists::{Memory, Row, V, list_of};
 use sst_base::{InternalValue, Result};
 use sst_merge::{Head, Merge, Source};
 use std::alloc::Global;
+use std::process::Abort;
 
 /// More sources than an engine has tables.
 const SOURCES: u64 = 3000;
 
-/// A source of one version with this number, of which it is taken.
-fn head_of(alloc: Global, number: u64) -> Result<Head<InternalValue, Memory>> {
-    Head::new(
-        alloc,
-        list_of(alloc, &[Row(b'a', number, V)], 0)?.into_iter(),
-    )
-}
-
 /// Sources of one version each of the same key, of which the last source has the newest.
-fn heads_of(alloc: Global) -> Result<Vec<Head<InternalValue, Memory>>> {
+fn heads_of(rt: &impl Abort, alloc: Global) -> Vec<Head<InternalValue, Memory>> {
     let mut heads = Vec::new(alloc);
     for number in 0..SOURCES {
-        push_made(&mut heads, head_of(alloc, number))?;
+        let list = list_of(rt, alloc, &[Row(b'a', number, V)], 0);
+        let head = Head::new(alloc, list.into_iter()).expect(rt, "a source");
+        heads.push(head).expect(rt, "room for a source");
     }
-    Ok(heads)
+    heads
 }
 
 /// The number of the version that a step takes, if it takes one.
@@ -44,19 +38,9 @@ fn first_wrong<I: Source<InternalValue>>(alloc: Global, source: &mut I) -> Resul
     Ok(None)
 }
 
-/// The same of a merge, and whether it gives no more.
-fn merged<I: Source<InternalValue> + Drop>(
-    alloc: Global,
-    heads: Vec<Head<InternalValue, I>>,
-) -> Result<(Option<u64>, bool)> {
-    let mut merged = Merge::new(heads);
-    let wrong = first_wrong(alloc, &mut merged)?;
-    Ok((wrong, taken(alloc, &mut merged)?.is_none()))
-}
-
 #[test]
-fn many_sources_are_merged(rt: HostRuntime) -> Tested {
-    let heads = heads_of(rt.alloc())?;
-    assert_eq!(rt; merged(rt.alloc(), heads)?, (None, true));
-    Ok(())
+fn many_sources_are_merged(rt: HostRuntime) {
+    let mut merged = Merge::new(heads_of(&rt, rt.alloc()));
+    assert_eq!(rt; first_wrong(rt.alloc(), &mut merged), Ok(None));
+    assert_eq!(rt; taken(rt.alloc(), &mut merged), Ok(None));
 }

@@ -4,7 +4,6 @@ ghost use Rattle.sst_merge.specs.Merge.{entry_cmp};
 ghost use Rattle.sst_merge.specs.MovableBlocks.{AreEntryBlocks, block_lists};
 ghost use Rattle.sst_merge.specs.Moved.{IsFreshSource};
 
-use crate::Tested;
 use crate::merges::lists::{Row, V, list_of};
 use crate::runs::faults::FailingSource;
 use crate::runs::lists::NO_BUCKETS;
@@ -175,20 +174,18 @@ fn check_steps<T: Keyed + AsEntry + Drop, I: Movable<T>>(
 
 /// The merge of three sources that were not moved.
 fn merge_of<T: Keyed, I: Movable<T> + Drop>(
+    rt: &impl Abort,
     alloc: Global,
-    first: Result<I>,
-    second: Result<I>,
-    third: Result<I>,
-) -> Result<MovableMerge<T, I>>
-    requires first { IfOk first (λ s. IsFreshSource T.cmp (I.moved s)) }
-    requires second { IfOk second (λ s. IsFreshSource T.cmp (I.moved s)) }
-    requires third { IfOk third (λ s. IsFreshSource T.cmp (I.moved s)) }
+    first: I,
+    second: I,
+    third: I,
+) -> MovableMerge<T, I>
+    requires first { IsFreshSource T.cmp (I.moved first) }
+    requires second { IsFreshSource T.cmp (I.moved second) }
+    requires third { IsFreshSource T.cmp (I.moved third) }
 {
-    let mut sources = Vec::new(alloc);
-    sources.push(first?)?;
-    sources.push(second?)?;
-    sources.push(third?)?;
-    Ok(MovableMerge::new(sources))
+    let sources = vec![in alloc; first, second, third].expect(rt, "three sources");
+    MovableMerge::new(sources)
 }
 
 /// Takes all steps of a merge of three lists, up to the first error.
@@ -203,32 +200,32 @@ fn check_lists(
     assert!(rt; InternalValue::are_ordered(second));
     assert!(rt; InternalValue::are_ordered(third));
     let mut merge = merge_of(
+        rt,
         alloc,
-        Ok(MovableList::new(first)),
-        Ok(MovableList::new(second)),
-        Ok(MovableList::new(third)),
-    )?;
+        MovableList::new(first),
+        MovableList::new(second),
+        MovableList::new(third),
+    );
     check_steps(rt, alloc, &mut merge)
 }
 
 #[test]
-fn a_merge_is_moved_as_a_window(rt: HostRuntime) -> Tested {
+fn a_merge_is_moved_as_a_window(rt: HostRuntime) {
     let alloc = rt.alloc();
-    let first = list_of(alloc, &FIRST, 1)?;
-    let second = list_of(alloc, &SECOND, 2)?;
-    let third = list_of(alloc, &THIRD, 3)?;
-    check_lists(&rt, alloc, &first, &second, &third)?;
-    Ok(())
+    let first = list_of(&rt, alloc, &FIRST, 1);
+    let second = list_of(&rt, alloc, &SECOND, 2);
+    let third = list_of(&rt, alloc, &THIRD, 3);
+    assert!(rt; check_lists(&rt, alloc, &first, &second, &third) == Ok(()));
 }
 
 /// A run: its handles, and its bytes.
 type Run = (RunHandles, Vec<u8>);
 
 /// A run of a list, in blocks of two entries.
-fn run_of(alloc: Global, rows: &[Row], list: u8) -> Result<Run> {
-    let entries = list_of(alloc, rows, list)?;
+fn run_of(rt: &impl Abort, alloc: Global, rows: &[Row], list: u8) -> Run {
+    let entries = list_of(rt, alloc, rows, list);
     let config = RunConfig::new(16, NO_BUCKETS, 0);
-    write_in_blocks(alloc, Vec::new(alloc), entries.as_slice(), 2, config)
+    write_in_blocks(alloc, Vec::new(alloc), &entries, 2, config).expect(rt, "a run")
 }
 
 /// The blocks of a run.
@@ -251,11 +248,12 @@ fn check_blocks<'x>(
     requires third { AreEntryBlocks (block_lists third.now) }
 {
     let mut merge = merge_of(
+        rt,
         alloc,
-        Ok(MovableBlocks::new(first)),
-        Ok(MovableBlocks::new(second)),
-        Ok(MovableBlocks::new(third)),
-    )?;
+        MovableBlocks::new(first),
+        MovableBlocks::new(second),
+        MovableBlocks::new(third),
+    );
     check_steps(rt, alloc, &mut merge)
 }
 
@@ -267,9 +265,9 @@ fn check_runs(
     second: &RunRef<'_, ByteSum>,
     third: &RunRef<'_, ByteSum>,
 ) -> Result<()> {
-    let first = blocks_of(alloc, first)?;
-    let second = blocks_of(alloc, second)?;
-    let third = blocks_of(alloc, third)?;
+    let first = blocks_of(alloc, first).expect(rt, "the first blocks");
+    let second = blocks_of(alloc, second).expect(rt, "the second blocks");
+    let third = blocks_of(alloc, third).expect(rt, "the third blocks");
     check_blocks(rt, alloc, &first, &second, &third)
 }
 
@@ -280,11 +278,8 @@ fn first_of<A, B: Drop>(both: (A, B)) -> A {
 }
 
 /// A run over its bytes, which is checked.
-fn checked(alloc: Global, run: &Run) -> Result<RunRef<'_, ByteSum>> {
-    match RunRef::check(alloc, &run.1, &run.0) {
-        Ok(both) => Ok(first_of(both)),
-        Err(error) => Err(error),
-    }
+fn checked<'a>(rt: &impl Abort, alloc: Global, run: &'a Run) -> RunRef<'a, ByteSum> {
+    first_of(RunRef::check(alloc, &run.1, &run.0).expect(rt, "a run"))
 }
 
 /// The same of three runs that are checked first.
@@ -295,24 +290,24 @@ fn check_written(
     second: &Run,
     third: &Run,
 ) -> Result<()> {
-    let first = checked(alloc, first)?;
-    let second = checked(alloc, second)?;
-    let third = checked(alloc, third)?;
+    let first = checked(rt, alloc, first);
+    let second = checked(rt, alloc, second);
+    let third = checked(rt, alloc, third);
     check_runs(rt, alloc, &first, &second, &third)
 }
 
 #[test]
-fn a_merge_of_runs_is_moved_as_a_window(rt: HostRuntime) -> Tested {
+fn a_merge_of_runs_is_moved_as_a_window(rt: HostRuntime) {
     let alloc = rt.alloc();
-    let first = run_of(alloc, &FIRST, 1)?;
-    let second = run_of(alloc, &SECOND, 2)?;
-    let third = run_of(alloc, &THIRD, 3)?;
-    check_written(&rt, alloc, &first, &second, &third)?;
-    Ok(())
+    let first = run_of(&rt, alloc, &FIRST, 1);
+    let second = run_of(&rt, alloc, &SECOND, 2);
+    let third = run_of(&rt, alloc, &THIRD, 3);
+    assert!(rt; check_written(&rt, alloc, &first, &second, &third) == Ok(()));
 }
 
 /// A table of a list, in blocks of two entries, whose source fails at a frame.
 fn table_of(
+    rt: &impl Abort,
     alloc: Global,
     rows: &[Row],
     list: u8,
@@ -320,10 +315,12 @@ fn table_of(
 ) -> Result<MovableTable<ByteSum, FailingSource>>
     ensures { IfOk result (IsFreshSource entry_cmp) }
 {
-    let (handles, bytes) = run_of(alloc, rows, list)?;
-    let source = FailingSource::new(Slice::from_vec(bytes)?, fails_at);
-    let table = Table::open(alloc, source, handles)?;
-    MovableTable::new(alloc, table)
+    let (handles, bytes) = run_of(rt, alloc, rows, list);
+    let bytes = Slice::from_vec(bytes).expect(rt, "a slice");
+    match Table::open(alloc, FailingSource::new(bytes, fails_at), handles) {
+        Ok(table) => MovableTable::new(alloc, table),
+        Err(failed) => Err(failed.error),
+    }
 }
 
 /// A table whose ends are moved.
@@ -358,13 +355,13 @@ fn check_to_error(
 
 /// The same of a merge of three tables, the second of which fails at a frame.
 fn take_steps(rt: &impl Abort, alloc: Global, fails_at: usize) -> Result<()> {
-    let mut merge = merge_of(
-        alloc,
-        table_of(alloc, &FIRST, 1, usize::MAX),
-        table_of(alloc, &SECOND, 2, fails_at),
-        table_of(alloc, &THIRD, 3, usize::MAX),
-    )?;
-    check_to_error(rt, alloc, &mut merge)
+    let second = match table_of(rt, alloc, &SECOND, 2, fails_at) {
+        Ok(table) => table,
+        Err(error) => return Err(error),
+    };
+    let first = table_of(rt, alloc, &FIRST, 1, usize::MAX).expect(rt, "the first table");
+    let third = table_of(rt, alloc, &THIRD, 3, usize::MAX).expect(rt, "the third table");
+    check_to_error(rt, alloc, &mut merge_of(rt, alloc, first, second, third))
 }
 
 #[test]

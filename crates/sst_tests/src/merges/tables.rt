@@ -2,13 +2,13 @@
 ghost use Rattle.std.specs.Prelude.{◌≡◌, ◌⊎◌, Some, [], map};
 ghost use Rattle.sst_base.specs.declared.error.Error.TheVariants.{Io, Memory};
 
-use crate::Tested;
 use crate::merges::failing::failing_after;
-use crate::merges::lists::{Row, V, entry_of, push_made};
+use crate::merges::lists::{Row, V, entry_of};
 use sst_base::{ByteSum, Error, HashRatio, InternalValue, Result, Slice};
 use sst_merge::{Head, Outputs, Sizes, Source, compact_tables, write_tables};
 use sstable_blocks::{MemorySource, RunConfig, RunHandles, RunWriter, Table};
 use std::alloc::Global;
+use std::process::Abort;
 
 /// A table in memory.
 #[derive(Drop)]
@@ -80,67 +80,50 @@ fn compact<I: Source<InternalValue> + Drop>(
 /// A stored table.
 type Stored = Table<ByteSum, MemorySource>;
 
-/// Opens a table.
-fn table_of(alloc: Global, written: &Written) -> Result<Stored> {
-    let source = MemorySource::new(Slice::from_vec(written.bytes.clone()?)?);
-    match Stored::open(alloc, source, written.handles) {
-        Ok(table) => Ok(table),
-        Err(failed) => Err(failed.error),
-    }
-}
-
-/// The numbers of entries and of blocks of an open table.
-fn count_in(alloc: Global, table: &mut Stored) -> Result<(u64, usize)> {
-    match table.verify(alloc) {
-        Ok(summary) => Ok((summary.entries, summary.blocks)),
-        Err(error) => Err(error),
-    }
-}
-
 /// The numbers of entries and of blocks of a table.
-fn count_of(alloc: Global, written: &Written) -> Result<(u64, usize)> {
-    match table_of(alloc, written) {
-        Ok(mut table) => count_in(alloc, &mut table),
-        Err(error) => Err(error),
-    }
+fn count_of(rt: &impl Abort, alloc: Global, written: &Written) -> (u64, usize) {
+    let bytes = written.bytes.clone().expect(rt, "its bytes");
+    let source = MemorySource::new(Slice::from_vec(bytes).expect(rt, "a slice"));
+    let mut table = match Stored::open(alloc, source, written.handles) {
+        Ok(table) => table,
+        Err(_) => panic!(rt; "no table"),
+    };
+    let summary = table.verify(alloc).expect(rt, "a sound table");
+    (summary.entries, summary.blocks)
 }
 
 /// How many tables have one entry in one block. Each is whole.
-fn count_single(alloc: Global, tables: &[Written]) -> Result<usize> {
+fn count_single(rt: &impl Abort, alloc: Global, tables: &[Written]) -> usize {
     let mut single = 0usize;
     for written in tables {
-        if count_of(alloc, written)? == (1, 1) {
+        if count_of(rt, alloc, written) == (1, 1) {
             single = single.saturating_add(1);
         }
     }
-    Ok(single)
+    single
 }
 
 /// Entries of two bytes each, of so many keys.
-fn entries_of_keys(alloc: Global, count: u8) -> Result<Vec<InternalValue>> {
+fn entries_of_keys(rt: &impl Abort, alloc: Global, count: u8) -> Vec<InternalValue> {
     let mut entries = Vec::new(alloc);
     for key in 0..count {
-        push_made(&mut entries, entry_of(alloc, &Row(key, 1, V), 0))?;
+        let entry = entry_of(rt, alloc, &Row(key, 1, V), 0);
+        entries.push(entry).expect(rt, "room for an entry");
     }
-    Ok(entries)
-}
-
-/// Whether all tables that are written before an output fails, so many, are whole.
-fn are_kept_by_outputs(alloc: Global, more: usize) -> Result<bool> {
-    let sizes = Sizes { block: 1, table: 1 };
-    let source = entries_of_keys(alloc, 12)?.into_iter();
-    let (tables, done) = compact(alloc, source, sizes, more);
-    let is_single = count_single(alloc, &tables) == Ok(more);
-    Ok(done == Err(Error::Io) && tables.len() == more && is_single)
+    entries
 }
 
 // The tables that were closed before an output fails stay.
 #[test]
-fn closed_tables_stay_where_an_output_fails(rt: HostRuntime) -> Tested {
+fn closed_tables_stay_where_an_output_fails(rt: HostRuntime) {
+    let alloc = rt.alloc();
     for more in 0..12usize {
-        assert!(rt; are_kept_by_outputs(rt.alloc(), more)?, "{more}");
+        let sizes = Sizes { block: 1, table: 1 };
+        let source = entries_of_keys(&rt, alloc, 12).into_iter();
+        let (tables, done) = compact(alloc, source, sizes, more);
+        assert!(rt; done == Err(Error::Io) && tables.len() == more, "{more}");
+        assert!(rt; count_single(&rt, alloc, &tables) == more, "{more}");
     }
-    Ok(())
 }
 
 /// Whether tables of a source are not written, three are kept, and the source has ended.
@@ -177,41 +160,26 @@ fn are_ended_by_outputs<I: Source<InternalValue>>(
     true
 }
 
-/// Whether an output that fails ends a source.
-fn is_ended<I: Source<InternalValue> + Drop>(alloc: Global, source: I) -> Result<bool> {
-    let mut source = Head::new(alloc, source)?;
-    Ok(are_ended_by_outputs(alloc, &mut source))
-}
-
 // An output that fails ends the source, whose entries are in no table.
 #[test]
-fn an_output_that_fails_ends_the_source(rt: HostRuntime) -> Tested {
-    let entries = entries_of_keys(rt.alloc(), 12)?;
-    assert!(rt; is_ended(rt.alloc(), entries.into_iter())?);
-    Ok(())
+fn an_output_that_fails_ends_the_source(rt: HostRuntime) {
+    let entries = entries_of_keys(&rt, rt.alloc(), 12);
+    let mut source = Head::new(rt.alloc(), entries.into_iter()).expect(&rt, "a source");
+    assert!(rt; are_ended_by_outputs(rt.alloc(), &mut source));
 }
 
-/// How many tables are written of a source that fails after so many steps, all whole, and whether
-/// it did not fail.
-fn written_before(alloc: Global, steps: usize) -> Result<(usize, bool)> {
-    let sizes = Sizes { block: 1, table: 1 };
-    let source = failing_after(alloc, steps)?;
-    let (tables, done) = compact(alloc, source, sizes, 100);
-    match count_single(alloc, &tables) {
-        Ok(_) => Ok((tables.len(), done.is_ok())),
-        Err(error) => Err(error),
-    }
-}
-
-// So do those that were closed before a source fails.
+// So do those that were closed before a source fails, after so many steps.
 #[test]
-fn closed_tables_stay_where_a_source_fails(rt: HostRuntime) -> Tested {
-    for (steps, wanted) in &[(1, 0), (2, 0), (3, 1), (4, 2), (5, 3)] {
-        assert_eq!(rt;
-            written_before(rt.alloc(), *steps)?,
-            (*wanted, *steps == 5),
+fn closed_tables_stay_where_a_source_fails(rt: HostRuntime) {
+    let alloc = rt.alloc();
+    for (steps, wanted) in &[(1usize, 0usize), (2, 0), (3, 1), (4, 2), (5, 3)] {
+        let sizes = Sizes { block: 1, table: 1 };
+        let (tables, done) = compact(alloc, failing_after(&rt, alloc, *steps), sizes, 100);
+        assert!(rt;
+            done.is_ok() == (*steps == 5) && tables.len() == *wanted,
             "{steps}"
         );
+        // (each of them is whole)
+        let _single = count_single(&rt, alloc, &tables);
     }
-    Ok(())
 }
