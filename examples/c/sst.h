@@ -333,6 +333,62 @@ uint32_t sst_data_block_scan(const uint8_t *payload, size_t len, struct sst_wind
                              uint64_t below_seqno, uint8_t reverse, struct sst_place *places, size_t cap,
                              size_t *count);
 
+/* A run that is given, as for sst_run_range: its bytes and its handles. */
+struct sst_run {
+    const uint8_t *bytes;
+    size_t len;
+    struct sst_run_handles handles;
+};
+
+/* An entry of a merge of runs: the index of its run, and where it is in that run. */
+struct sst_merged {
+    size_t run;
+    struct sst_place place;
+};
+
+/* Merges what windows of runs have left, one window for each run: writes where the next entries are, by key
+   rising, then by sequence number falling, and of equal entries those of the earlier run first; if has_below is
+   not 0 of those with a sequence number strictly below one. Each run is as for sst_run_range, by a hash function
+   of its own, and the offsets are those in the entry's run. The front of each window is moved over the entries of
+   its run that the call went past, and the ends stay, so the calls with the same windows and snapshots list each
+   of their entries once, in order. Nothing else is kept between calls.
+   An entry that some of the snapshots see is passed and not listed where each snapshot that sees it sees a newer
+   one of its key too, or one with its number that comes before it: what compactions leave out. A snapshot sees
+   the entries with a sequence number strictly below its own. Without snapshots nothing is left out, and
+   tombstones never are for being one. A full call goes past the entries that follow and are left out, too.
+   SST_OK: the first *count elements of merged are written: all of them, or fewer where nothing is left then.
+   Those after them are left. SST_BAD_ARGUMENT: exactly if window_count is not run_count, or a window is none of
+   its run's, as for sst_run_scan. SST_MEMORY: the call takes memory for each run, less than 2 KiB, and for each
+   entry that it lists. But for SST_OK windows, merged and *count are left. A call opens each run anew: it decodes
+   what it goes past and one entry more, and before them at most the entries of a restart interval. */
+uint32_t sst_merge_scan(const struct sst_run *runs, size_t run_count, struct sst_window *windows,
+                        size_t window_count, uint8_t has_below, uint64_t below_seqno, const uint64_t *snapshots,
+                        size_t snapshot_count, struct sst_merged *merged, size_t cap, size_t *count);
+
+/* Compacts runs into one run at the front of out. The runs are as for sst_run_range, so each is by either hash
+   function, and the newest one stands first: their entries are merged, and of entries with the same key and
+   sequence number those of the earlier run come first. Of each run only the entries with keys in the range are
+   taken, as for sst_run_range.
+
+   snapshots has the numbers that are read at, in any order. The entries stay that a read below one of them, or
+   below any number that is at least as large as all of them, can find: of the versions of a key that are below a
+   snapshot only the first below each; all that are not, so without snapshots all entries. is_bottom is not 0
+   where no older version of a key in the range is elsewhere. Then a tombstone that is below a snapshot goes
+   too, unless there is under it a version that a read at a snapshot finds which the tombstone is not below.
+
+   The run is written by *config, whose hash function may be another than that of the runs. A block ends with the
+   entry with which its entries reach block_size bytes: as they are encoded, without pointers, buckets, trailer and
+   frame. SST_OK: *out_len bytes of out are the run, and *handles its handles. SST_NO_ROOM: out_cap is less than
+   *out_len. SST_NOT_FOUND: no entry stays, exactly then. SST_BAD_ARGUMENT: exactly if no run can be written so:
+   an interval or den is 0, or config->hash is none of enum sst_hash. SST_TOO_LONG: only as for sst_run_write, or
+   where the entries have 2^64 - 1 bytes or more. SST_MEMORY: the run is made, and then copied to out. But for
+   SST_OK out and *handles are left, and but for SST_OK and SST_NO_ROOM *out_len. */
+uint32_t sst_compact(const struct sst_run *runs, size_t run_count, uint8_t has_from, const uint8_t *from,
+                     size_t from_len, uint8_t has_to, const uint8_t *to, size_t to_len, const uint64_t *snapshots,
+                     size_t snapshot_count, uint8_t is_bottom, size_t block_size,
+                     const struct sst_run_config *config, uint8_t *out, size_t out_cap, size_t *out_len,
+                     struct sst_run_handles *handles);
+
 /* Reads where index and filter are in the run of a table file, from its last 24 bytes; the run is the bytes
    before these. SST_OK: *handles is written. SST_TRUNCATED: exactly if there are fewer than 24 bytes, and
    *handles is left. Takes no memory. */

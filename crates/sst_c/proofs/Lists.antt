@@ -13,3 +13,11 @@ pub mod OneBlock
 pub mod RunEnds
 pub mod RunHashes
 pub mod CheckEnds
+pub mod Compacting
+pub mod PlacedLists
+pub mod Walks
+pub mod MergedLists
+pub mod Merges
+pub mod MergeHeads
+pub mod MergeShown
+pub mod MergeOrder

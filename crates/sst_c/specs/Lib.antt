@@ -14,3 +14,9 @@ pub mod Listing
 pub mod Windows
 pub mod Batches
 pub mod Ranges
+pub mod Compactions
+pub mod Placed
+pub mod Walks
+pub mod PlacedLaws
+pub mod MergeBatches
+pub mod MergeSteps

@@ -1,5 +1,6 @@
 -- Runs in a caller's buffers.
 use Rattle.std.specs.Prelude.{◌≡◌, ◌⊎◌, ℕ, ◌==◌, ◌≤◌, if◌then◌else◌, List, length, Some, None, Err}
+use Rattle.std.specs.List.{AllByRecursion, AllZip}
 use Rattle.sstable_blocks.specs.Prelude.{Entry, entries, IsOrdered}
 use Rattle.sstable_blocks.specs.Results.{Error, TooLong, Memory}
 use Rattle.sstable_blocks.specs.Blocks.{CutsFit, blocks_of}
@@ -13,6 +14,7 @@ use Rattle.sst_c.specs.Given.{AreGiven, AreKept, IsWrittenOut}
 use Rattle.sst_c.specs.declared.codes.Status.{Status}
 use Rattle.sst_c.specs.declared.codes.Status.TheVariants.{Done, Failed, BadArgument}
 use Rattle.sst_c.specs.declared.entries.SstEntry.{SstEntry}
+use Rattle.sst_c.specs.declared.run.SstRun.{SstRun}
 use Rattle.sst_c.specs.declared.run.SstRunConfig.{SstRunConfig}
 use Rattle.sst_c.specs.declared.run.SstRunHandles.{SstRunHandles}
 use Rattle.sst_c.specs.declared.run.SstSummary.{SstSummary}
@@ -31,6 +33,18 @@ handles_given h = record {
   index = record { offset = h.index_offset; size = h.index_size };
   filter = if h.filter_size == 0 then None else Some (record { offset = h.filter_offset; size = h.filter_size });
 }
+
+-- each is a sound run by some hashes
+abbrev pub AreSomeRuns : List SstRun → Type 0
+AreSomeRuns runs = AllByRecursion (λ (run : SstRun). IsSomeRun run.bytes.now (handles_given run.handles)) runs
+
+-- a run that is given is a sound run of these blocks, by some hashes
+abbrev pub IsGivenRun : SstRun → List (List Entry) → Type 0
+IsGivenRun run blocks = (c : Hashes) × IsSound c blocks run.bytes.now (handles_given run.handles)
+
+-- what holds of the blocks of runs, whatever hashes they are by
+abbrev pub ForRuns : List SstRun → (List (List (List Entry)) → Type 0) → Type 0
+ForRuns runs holds = (all : List (List (List Entry))) → AllZip IsGivenRun runs all → holds all
 
 -- the numbers of a summary of blocks
 pub record IsSummaryOf (blocks : List (List Entry)) (s : SstSummary) : Type 0 where

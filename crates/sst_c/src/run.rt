@@ -46,6 +46,16 @@ pub struct SstRunHandles {
     pub filter_size: u32,
 }
 
+/// A run that is given: its bytes, and where its index and its filter are in them.
+#[repr(C)]
+#[derive(Drop)]
+pub struct SstRun<'a> {
+    /// The bytes.
+    pub bytes: &'a [u8],
+    /// Where the frames of the index and of the filter are.
+    pub handles: SstRunHandles,
+}
+
 /// How a run is written.
 #[repr(C)]
 #[derive(Drop)]

@@ -124,6 +124,29 @@ fn window_between(first: &Place, end: &Place) -> SstWindow
     window
 }
 
+/// The keys of a range as C gives them: from a key on, if its flag is not 0, and up to before
+/// another, if its flag is not 0.
+#[derive(Clone, Copy)]
+pub(crate) struct KeysGiven<'k> {
+    pub(crate) has_from: u8,
+    pub(crate) from: &'k [u8],
+    pub(crate) has_to: u8,
+    pub(crate) to: &'k [u8],
+}
+
+/// The window of the entries of a run with keys in a range.
+pub(crate) fn window_in(bytes: &[u8], handles: &RunHandles, keys: &KeysGiven<'_>) -> SstWindow
+    requires { IsSomeRun bytes.now handles.now }
+    ensures { ForSomeRun bytes.now handles.now (λ blocks. IsWindowOf blocks
+        (keys_between (key_given keys.now.has_from keys.now.from.now)
+        (key_given keys.now.has_to keys.now.to.now)) result) }
+{
+    sound_opens();
+    let first = first_of(bytes, handles, keys.has_from, keys.from);
+    let end = last_of(bytes, handles, keys.has_to, keys.to);
+    window_between(&first, &end)
+}
+
 /// Writes the window of the entries of a run with keys in a range: from a key on, if `has_from` is
 /// not 0, and up to before another, if `has_to` is not 0. The run is one that a check accepted or
 /// the library wrote, by whatever hash function. The window is empty where no key is in the range.
@@ -142,9 +165,11 @@ pub extern "C" fn sst_run_range(
     ensures { ForSomeRun bytes.now (handles_given handles.now) (λ blocks. IsWindowOf blocks
         (keys_between (key_given has_from from.now) (key_given has_to to.now)) window.new) }
 {
-    sound_opens();
-    let handles = run_handles(handles);
-    let first = first_of(bytes, &handles, has_from, from);
-    let end = last_of(bytes, &handles, has_to, to);
-    *window = window_between(&first, &end);
+    let keys = KeysGiven {
+        has_from,
+        from,
+        has_to,
+        to,
+    };
+    *window = window_in(bytes, &run_handles(handles), &keys);
 }

@@ -17,9 +17,9 @@ use sstable_blocks::run::laws::sound_opens;
 use sstable_blocks::table::data_block::{DataBlockParsedItem, Iter};
 use sstable_blocks::{RunHandles, SeqNo};
 
-// Whether a sequence number is strictly below one, if there is one.
+/// Whether a sequence number is strictly below one, if there is one.
 #[inline(always)]
-fn is_under(below: Option<SeqNo>, seqno: SeqNo) -> bool
+pub(crate) fn is_under(below: Option<SeqNo>, seqno: SeqNo) -> bool
     ensures { result ≡ is_under below seqno }
 {
     match below {
@@ -49,9 +49,9 @@ fn list_one(
     }
 }
 
-// An iterator over the entries of a block from the one at an index on. It decodes those before it
-// in its restart interval.
-fn entries_from<'a>(part: &RunBlock<'a>, index: usize) -> Iter<'a>
+/// An iterator over the entries of a block from the one at an index on. It decodes those before it
+/// in its restart interval.
+pub(crate) fn entries_from<'a>(part: &RunBlock<'a>, index: usize) -> Iter<'a>
     requires { index < length part.now.block.items }
     ensures payload { result.payload ≡ part.now.block.payload }
     ensures left { items_left result.window ≡ drop index part.now.block.items }

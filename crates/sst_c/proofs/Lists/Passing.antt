@@ -94,11 +94,15 @@ front_passes bytes blocks below w xs t old new a b window at less inside up list
       lists = lists;
     }
 
+-- a window with what is left of it
+pub record Moves (blocks : List (List Entry)) (w : SstWindow) (left : List Entry) : Type 0 where
+  pub window : IsWindow blocks w
+  pub is : left_in blocks w ≡ left
+
 -- from the end of the first block on to the next one
-pub front_next : (bytes : List ℕ) (blocks : List (List Entry)) (below : Option ℕ) (w : SstWindow) (xs : List Entry) (old : List SstPlace) (count : ℕ)
-    → IsWindow blocks w → slice_get blocks w.first_block ≡ Some xs → w.first_index ≡ length xs → w.first_block < w.end_block → count ≤ length old
-    → Passes bytes blocks below false w (record w { first_block = w.first_block + 1; first_index = 0 }) old old count count
-front_next bytes blocks below w xs old count window at whole less room =
+pub next_block : (blocks : List (List Entry)) (w : SstWindow) (xs : List Entry) → IsWindow blocks w → slice_get blocks w.first_block ≡ Some xs → w.first_index ≡ length xs → w.first_block < w.end_block
+    → Moves blocks (record w { first_block = w.first_block + 1; first_index = 0 }) (left_in blocks w)
+next_block blocks w xs window at whole less =
     let last = slice_get_within blocks w.end_block window.end.items window.end.there in
     let next = item_found blocks (w.first_block + 1) (omega (arith, less, last)) in
     let n = length (joined (take w.first_block blocks)) in
@@ -111,10 +115,7 @@ front_next bytes blocks below w xs old count window at whole less room =
         end = window.end;
         uncrossed = up;
       };
-      other = (refl, refl);
-      passed = [];
-      cut = ap (λ k. between (joined blocks) k (m + w.end_index)) (sym same);
-      lists = lists_none bytes below old count room;
+      is = ap (λ k. between (joined blocks) k (m + w.end_index)) same;
     }
   where
     up : IsUpToPlace (w.first_block + 1) 0 w.end_block w.end_index
@@ -122,6 +123,13 @@ front_next bytes blocks below w xs old count window at whole less room =
       | inl before ↦ inl before
       | inr past ↦ inr (omega (arith, less, past), omega arith)
     ]
+
+pub front_next : (bytes : List ℕ) (blocks : List (List Entry)) (below : Option ℕ) (w : SstWindow) (xs : List Entry) (old : List SstPlace) (count : ℕ)
+    → IsWindow blocks w → slice_get blocks w.first_block ≡ Some xs → w.first_index ≡ length xs → w.first_block < w.end_block → count ≤ length old
+    → Passes bytes blocks below false w (record w { first_block = w.first_block + 1; first_index = 0 }) old old count count
+front_next bytes blocks below w xs old count window at whole less room =
+    let next = next_block blocks w xs window at whole less in
+    record { window = next.window; other = (refl, refl); passed = []; cut = sym next.is; lists = lists_none bytes below old count room }
 
 -- nothing is left between the same place twice
 pub none_left : (blocks : List (List Entry)) (w : SstWindow) → w.first_block ≡ w.end_block → w.first_index ≡ w.end_index → left_in blocks w ≡ []
