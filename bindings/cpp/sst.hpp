@@ -67,6 +67,24 @@ struct entry {
     }
 };
 
+/* The entries that a range has left, from the front; a step takes one from the range. */
+template <class Range> class steps {
+  public:
+    using iterator_concept = std::input_iterator_tag;
+    using value_type = entry;
+    using difference_type = std::ptrdiff_t;
+    explicit steps(Range *over) : over_(over), held_(over->next()) {}
+    const entry &operator*() const { return *held_; }
+    const entry *operator->() const { return &*held_; }
+    steps &operator++() { return held_ = over_->next(), *this; }
+    void operator++(int) { ++*this; }
+    bool operator==(std::default_sentinel_t) const { return !held_; }
+
+  private:
+    Range *over_;
+    std::optional<entry> held_;
+};
+
 /* A table file over borrowed bytes. */
 class table {
   public:
@@ -164,24 +182,8 @@ class table {
         std::optional<entry> next() { return next(front_, back_, 0); }
         std::optional<entry> next_back() { return next(back_, front_, 1); }
 
-        /* What is left, from the front; a step takes it from the range. */
-        struct sentinel {};
-        class iterator {
-          public:
-            using iterator_concept = std::input_iterator_tag;
-            using value_type = entry;
-            using difference_type = std::ptrdiff_t;
-            explicit iterator(range *over) : over_(over), held_(over->next()) {}
-            const entry &operator*() const { return *held_; }
-            const entry *operator->() const { return &*held_; }
-            iterator &operator++() { return held_ = over_->next(), *this; }
-            void operator++(int) { ++*this; }
-            bool operator==(sentinel) const { return !held_; }
-
-          private:
-            range *over_;
-            std::optional<entry> held_;
-        };
+        using iterator = steps<range>;
+        using sentinel = std::default_sentinel_t;
         iterator begin() { return iterator(this); }
         sentinel end() const { return {}; }
 
@@ -221,7 +223,11 @@ class table {
         return {this, window(from, to), below, batch};
     }
 
+    /* The table as the calls of sst.h take it, without its footer. */
+    sst_run run() const { return {run_.data(), run_.size(), handles_}; }
+
   private:
+    friend class merge;
     table(bytes file, sst_hash hash) : hash_(hash) {
         if (uint32_t status = sst_footer_read(file.lent(), file.size(), &handles_)) throw error(status);
         run_ = bytes(file.first(file.size() - 24));
@@ -270,6 +276,65 @@ class table {
     sst_summary summary_{};
 };
 
+/* The entries of several tables in one order: by key, then by sequence number falling, and of equal ones those of the
+   earlier table first, so the newest table stands first. The tables may be by either hash function. They are read in
+   batches, of which it keeps one. A step throws error where an allocation of the call fails; then the next one tries
+   again.
+
+       for (auto merge = sst::merge(tables, "a", "b"); auto entry = merge.next();) use(*entry);
+       for (auto entry : sst::merge(tables)) use(entry); */
+class merge {
+  public:
+    /* Of entries with keys from one on up to before another, with numbers strictly below one, where these are given.
+       What compact() leaves out for these snapshots above the bottom is left out. A snapshot sees the entries strictly
+       below it: one that some of them see goes where each of these sees one of its key that comes before it, also if
+       that one is not below the number. Batches are of `batch` entries, at least 1; each opens each table anew, so many
+       tables want larger ones: some 8 for each. */
+    explicit merge(std::span<const table> tables, std::optional<bytes> from = {}, std::optional<bytes> to = {},
+                   std::optional<uint64_t> below = {}, std::span<const uint64_t> snapshots = {}, size_t batch = 64)
+        : tables_(tables.begin(), tables.end()), snapshots_(snapshots.begin(), snapshots.end()), below_(below),
+          room_(batch) {
+        for (const table &table : tables) runs_.push_back(table.run()), windows_.push_back(table.window(from, to));
+    }
+
+    std::optional<entry> next() {
+        if (next_ == batch_.size()) fill();
+        if (next_ == batch_.size()) return std::nullopt;
+        const sst_merged &at = batch_[next_++];
+        return tables_[at.run].entry_at(at.place);
+    }
+
+    using iterator = steps<merge>;
+    using sentinel = std::default_sentinel_t;
+    iterator begin() { return iterator(this); }
+    sentinel end() const { return {}; }
+
+  private:
+    void fill() {
+        sst_run no_run{};
+        sst_window no_window{};
+        uint64_t no_snapshot = 0;
+        size_t count = 0;
+        batch_.resize(room_), next_ = room_;
+        uint32_t status = sst_merge_scan(
+            runs_.empty() ? &no_run : runs_.data(), runs_.size(), windows_.empty() ? &no_window : windows_.data(),
+            windows_.size(), below_.has_value(), below_.value_or(0),
+            snapshots_.empty() ? &no_snapshot : snapshots_.data(), snapshots_.size(), batch_.data(), batch_.size(),
+            &count);
+        if (status) throw error(status);
+        batch_.resize(count), next_ = 0;
+    }
+
+    std::vector<table> tables_;
+    std::vector<sst_run> runs_;
+    std::vector<sst_window> windows_;
+    std::vector<uint64_t> snapshots_;
+    std::optional<uint64_t> below_;
+    size_t room_;
+    std::vector<sst_merged> batch_;
+    size_t next_ = 0;
+};
+
 /* An entry to be written, whose bytes are borrowed. */
 inline sst_entry given(bytes key, uint64_t seqno, bytes value, sst_value_type type = SST_VALUE) {
     return {key.lent(), key.size(), value.lent(), value.size(), seqno, static_cast<uint8_t>(type)};
@@ -297,6 +362,42 @@ inline std::vector<uint8_t> write(std::span<const sst_entry> entries, size_t blo
     };
     uint32_t status = try_write();
     if (status == SST_NO_ROOM) out.resize(len), status = try_write();
+    if (status) throw error(status);
+    out.resize(len + 24);
+    size_t footer = 0;
+    sst_footer_write(&handles, out.data() + len, 24, &footer);
+    return out;
+}
+
+/* Compacts tables into one table file, or none where no entry stays. The newest table stands first: of entries
+   with the same key and sequence number those of the earlier table come first. Of each table only the entries with
+   keys from one on up to before another are taken, where these are given.
+   The entries stay that a read below one of the snapshots, or below any number that is at least as large as all
+   of them, can find; without snapshots all. At the bottom no older version of a key in the range is elsewhere:
+   tombstones that are below a snapshot, and hide nothing that stays, go then.
+   The tables may be by either hash function. A block ends with the entry with which its entries have so many bytes as
+   they are encoded. Throws error. */
+inline std::optional<std::vector<uint8_t>> compact(std::span<const table> tables, std::span<const uint64_t> snapshots,
+                                                   bool is_bottom = false, std::optional<bytes> from = {},
+                                                   std::optional<bytes> to = {}, size_t block_size = 4096,
+                                                   const sst_run_config &config = {0, 1, 10, 16, 1, SST_XXH3}) {
+    std::vector<sst_run> runs;
+    size_t all = 4096;
+    for (const table &table : tables) runs.push_back(table.run()), all += runs.back().len;
+    bytes start = from.value_or(bytes("")), stop = to.value_or(bytes(""));
+    std::vector<uint8_t> out(all);
+    sst_run no_run{};
+    sst_run_handles handles;
+    size_t len = 0;
+    uint64_t no_snapshot = 0;
+    auto try_compact = [&] {
+        return sst_compact(runs.empty() ? &no_run : runs.data(), runs.size(), from.has_value(), start.lent(), start.size(),
+                           to.has_value(), stop.lent(), stop.size(), snapshots.empty() ? &no_snapshot : snapshots.data(),
+                           snapshots.size(), is_bottom, block_size, &config, out.data(), out.size(), &len, &handles);
+    };
+    uint32_t status = try_compact();
+    if (status == SST_NO_ROOM) out.resize(len), status = try_compact();
+    if (status == SST_NOT_FOUND) return std::nullopt;
     if (status) throw error(status);
     out.resize(len + 24);
     size_t footer = 0;

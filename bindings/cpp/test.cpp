@@ -131,6 +131,95 @@ void check_table(const sst::table &table, const std::vector<row> &rows) {
     demand(std::equal(table.lower_bound(""), table.end(), rows.begin(), rows.end(), is), "all from the empty key on");
     check_scan(table, rows, "", "\xff", {}, 64);
 }
+/* The rows of tables, the newest table first, that a compaction has to leave in a range of keys. */
+std::vector<row> staying(const std::vector<std::vector<row>> &tables, const std::vector<uint64_t> &snapshots, bool is_bottom,
+                         const std::string &from, const std::string &to) {
+    std::vector<row> all, left;
+    for (const auto &rows : tables)
+        for (const row &r : rows)
+            if (r.key >= from && r.key < to) all.push_back(r);
+    std::ranges::stable_sort(all, [](const row &a, const row &b) { return std::tie(a.key, b.seqno) < std::tie(b.key, a.seqno); });
+    for (size_t i = 0; i < all.size(); i++) {
+        const row &r = all[i];
+        bool hidden = true, seen = false, needed = false;
+        for (uint64_t snapshot : snapshots) {
+            if (r.seqno >= snapshot) continue;
+            seen = true;
+            auto newer = [&](const row &n) { return n.key == r.key && n.seqno < snapshot; };
+            hidden &= std::any_of(all.begin(), all.begin() + static_cast<ptrdiff_t>(i), newer);
+        }
+        for (size_t d = i + 1; d < all.size(); d++)
+            for (uint64_t snapshot : snapshots)
+                needed |= all[d].key == r.key && all[d].seqno < snapshot && snapshot <= r.seqno;
+        bool goes = is_bottom && r.type == SST_TOMBSTONE && !needed;
+        if (!seen || (!hidden && !goes)) left.push_back(r);
+    }
+    return left;
+}
+
+/* Compactions of three tables by either hash function. */
+void check_compactions() {
+    for (unsigned seed = 0; seed < 60; seed++) {
+        std::vector<std::vector<row>> rows;
+        std::vector<std::vector<uint8_t>> files;
+        std::vector<sst::table> tables;
+        for (unsigned n = 0; n < 3; n++) {
+            uint16_t hash = (seed + n) % 2;
+            rows.push_back(rows_of(seed * 3 + n, 1 + seed * 7));
+            files.push_back(file_of(rows.back(), 100, {n, 2, 10, 4, 1, hash}));
+            tables.push_back(sst::table::check(sst::bytes(std::span<const uint8_t>(files.back())), static_cast<sst_hash>(hash)));
+        }
+        std::mt19937 random(seed);
+        std::vector<uint64_t> snapshots;
+        for (unsigned n = random() % 5; n > 0; n--) snapshots.push_back(random() % 55);
+        bool is_bottom = seed % 2;
+        std::string from = seed % 3 ? rows[0][0].key : "", to = seed % 5 ? rows[1].back().key : "\xff";
+        sst_run_config config{1, 2, 10, 8, 2, static_cast<uint16_t>(seed / 2 % 2)};
+        size_t size = seed % 4 ? size_t(1) << 30 : 1;
+        auto left = staying(rows, snapshots, is_bottom, from, to);
+        auto made = sst::compact(tables, snapshots, is_bottom, from, to, size, config);
+        demand(left.empty() ? !made : made && *made == file_of(left, size, config), "a compaction leaves what has to stay");
+    }
+    demand(!sst::compact({}, {}), "of no table nothing stays");
+    demand(throws(SST_BAD_ARGUMENT, [] { sst::compact({}, {}, false, {}, {}, 1, {0, 0, 0, 1, 1, SST_XXH3}); }), "a denominator of 0");
+}
+
+/* Merges of four tables by either hash function. The last one has the entries of the first with other values. */
+void check_merges() {
+    for (unsigned seed = 0; seed < 60; seed++) {
+        std::vector<std::vector<row>> rows;
+        std::vector<std::vector<uint8_t>> files;
+        std::vector<sst::table> tables;
+        for (unsigned n = 0; n < 4; n++) {
+            uint16_t hash = (seed + n) % 2;
+            rows.push_back(rows_of(seed * 3 + n % 3, 1 + seed * 7));
+            if (n == 3)
+                for (row &r : rows.back()) r.type = SST_VALUE, r.value = "w";
+            files.push_back(file_of(rows.back(), 100, {n, 2, 10, 4, 1, hash}));
+            sst::bytes lent(std::span<const uint8_t>(files.back()));
+            tables.push_back(sst::table::check(lent, static_cast<sst_hash>(hash)));
+        }
+        std::mt19937 random(seed);
+        std::vector<uint64_t> snapshots;
+        for (unsigned n = random() % 5; n > 0; n--) snapshots.push_back(random() % 55);
+        std::optional<uint64_t> below;
+        if (seed % 2) below = 25;
+        std::string from = seed % 3 ? rows[0][0].key : "", to = seed % 5 ? rows[1].back().key : "\xff";
+        auto left = staying(rows, snapshots, false, from, to);
+        std::erase_if(left, [&](const row &r) { return below && r.seqno >= *below; });
+        size_t next = 0;
+        for (const sst::entry &entry : sst::merge(tables, from, to, below, snapshots, 1 + seed * 3))
+            demand(next < left.size() && is(entry, left[next++]), "a merge gives the next entry");
+        demand(next == left.size(), "a merge gives all entries");
+        size_t all = 0, counted = 0;
+        for (const auto &list : rows) all += list.size();
+        auto merge = sst::merge(tables);
+        while (merge.next()) counted++;
+        demand(counted == all && !merge.next(), "a merge without bounds gives all entries");
+    }
+    demand(!sst::merge({}).next(), "of no table a merge gives nothing");
+}
+
 /* Tables of one block, of about as many entries as an iterator reads of a block at a time. */
 void check_one_block() {
     for (size_t count : {1, 63, 64, 65, 127, 128, 129, 1000}) {
@@ -145,6 +234,7 @@ void check_one_block() {
 
 int main() {
     static_assert(std::bidirectional_iterator<sst::table::iterator>);
+    static_assert(std::ranges::input_range<sst::table::range> && std::ranges::input_range<sst::merge>);
     size_t tables = 0;
     for (unsigned seed = 0; seed < 40; seed++) {
         auto rows = rows_of(seed, 1 + seed * 10);
@@ -186,6 +276,8 @@ int main() {
     writer.finish();
     demand(sst::table::check(sst::bytes(std::span<const uint8_t>(memory.file))).summary().entries == 2, "two entries");
     check_one_block();
+    check_compactions();
+    check_merges();
     check_large();
     std::printf("%zu tables, %zu not so\n", tables, failed);
     return failed > 0;

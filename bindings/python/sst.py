@@ -100,6 +100,14 @@ class _Handles(ctypes.Structure):
                 ("index_size", ctypes.c_uint32), ("filter_size", ctypes.c_uint32)]
 
 
+class _Run(ctypes.Structure):
+    _fields_ = [("bytes", ctypes.c_void_p), ("len", ctypes.c_size_t), ("handles", _Handles)]
+
+
+class _Merged(ctypes.Structure):
+    _fields_ = [("run", ctypes.c_size_t), ("place", _Place)]
+
+
 class _KeyedHandle(ctypes.Structure):
     _fields_ = [("end_key", ctypes.c_char_p), ("end_key_len", ctypes.c_size_t), ("seqno", ctypes.c_uint64),
                 ("offset", ctypes.c_uint64), ("size", ctypes.c_uint32)]
@@ -146,7 +154,13 @@ def _load():
              [ctypes.POINTER(_Entry), size, ctypes.POINTER(_Config), address, size, count, address, size]),
             ("sst_run_end_write", ctypes.c_uint32,
              [ctypes.POINTER(_KeyedHandle), size, address, size, ctypes.POINTER(_Config), address, size, count,
-              handles])):
+              handles]),
+            ("sst_merge_scan", ctypes.c_uint32,
+             [ctypes.POINTER(_Run), size, ctypes.POINTER(_Window), size, ctypes.c_uint8, ctypes.c_uint64, address, size,
+              ctypes.POINTER(_Merged), size, count]),
+            ("sst_compact", ctypes.c_uint32,
+             [ctypes.POINTER(_Run), size, ctypes.c_uint8, ctypes.c_char_p, size, ctypes.c_uint8, ctypes.c_char_p, size,
+              address, size, ctypes.c_uint8, size, ctypes.POINTER(_Config), address, size, count, handles])):
         function = getattr(lib, call)
         function.restype, function.argtypes = result, words
     if lib.sst_version() != VERSION:
@@ -261,6 +275,42 @@ class Table:
         return self.scan(reverse=True)
 
 
+def _runs(tables):
+    return (_Run * len(tables))(*[_Run(t._run[0], t._run[1], t._handles) for t in tables])
+
+
+def merge(tables, start=b"", end=None, below=None, snapshots=(), batch=64):
+    """The entries of several tables in one order: by key, then by sequence number falling, and of equal ones those of
+    the earlier table first, so the newest table stands first. The tables may be by either hash function. The rest is
+    as for `Table.scan`; but each batch opens each table anew, so many tables want larger ones: some 8 for each.
+
+    What `compact` leaves out for these snapshots above the bottom is left out. A snapshot sees the entries strictly
+    below it: one that some of them see goes where each of these sees one of its key that comes before it, also if
+    that one is not below `below`.
+
+        with sst.Table.open("new.sst") as newer, sst.Table.open("old.sst") as older:
+            for entry in sst.merge([newer, older]):
+                print(entry.key, entry.seqno, entry.value)
+    """
+    if batch < 1:
+        raise ValueError("a batch has at least one entry")
+    tables, snapshots = list(tables), list(snapshots)
+    windows = (_Window * len(tables))(*[table._window(start, end) for table in tables])
+    return _merged(tables, windows, below, (ctypes.c_uint64 * len(snapshots))(*snapshots), batch)
+
+
+def _merged(tables, windows, below, snapshots, batch):
+    """The entries that windows of tables have left, read in batches."""
+    count, merged = ctypes.c_size_t(), (_Merged * batch)()
+    while True:
+        _demand(_LIB.sst_merge_scan(_runs(tables), len(tables), windows, len(windows), below is not None, below or 0,
+                                    snapshots, len(snapshots), merged, batch, ctypes.byref(count)))
+        if count.value == 0:
+            return
+        for at in merged[:count.value]:
+            yield tables[at.run]._entry(at.place)
+
+
 def _given(entries):
     return (_Entry * len(entries))(*[
         _Entry(e.key, len(e.key), e.value, len(e.value), e.seqno, e.type) for e in entries])
@@ -297,10 +347,46 @@ def write(entries, block_size=4096, restart_interval=16, index_interval=1, bits_
             ctypes.byref(handles))) == _NO_ROOM:
         out = bytearray(need.value)
     _demand(status)
-    run = bytes(out[:need.value])
-    footer = ctypes.create_string_buffer(_FOOTER)
+    return _file(out[:need.value], handles)
+
+
+def _file(run, handles):
+    """The table file of a run: its bytes and the footer."""
+    footer, need = ctypes.create_string_buffer(_FOOTER), ctypes.c_size_t()
     _demand(_LIB.sst_footer_write(ctypes.byref(handles), footer, _FOOTER, ctypes.byref(need)))
-    return run + footer.raw
+    return bytes(run) + footer.raw
+
+
+def compact(tables, snapshots=(), bottom=False, start=b"", end=None, block_size=4096, restart_interval=16,
+            index_interval=1, bits_per_key=10, hash_ratio=(0, 1), hash=Hash.XXH3):
+    """The bytes of one table file of what stays of tables, or None where no entry does. The newest table stands first:
+    of entries with the same key and sequence number those of the earlier table come first. Of each table only the
+    entries of the keys from `start` on, up to and without `end` (None: to the last) are taken.
+
+    The entries stay that a read below one of the snapshots, or below any number that is at least as large as all
+    of them, can find; without snapshots all. At the bottom no older version of a key in the range is elsewhere:
+    tombstones that are below a snapshot, and hide nothing that stays, go then. The tables may be by either hash
+    function; `hash` is that of the new one. A block ends with the entry with which its entries have `block_size` bytes as
+    they are encoded. The rest is as for `write`.
+
+        with sst.Table.open("new.sst") as newer, sst.Table.open("old.sst") as older:
+            data = sst.compact([newer, older], snapshots=[sst.MAX_SEQNO], bottom=True)
+    """
+    tables, snapshots, to = list(tables), list(snapshots), b"" if end is None else end
+    runs = _runs(tables)
+    numbers = (ctypes.c_uint64 * len(snapshots))(*snapshots)
+    config = _Config(*hash_ratio, bits_per_key, restart_interval, index_interval, Hash(hash))
+    handles, need = _Handles(), ctypes.c_size_t()
+    out = bytearray(sum(run.len for run in runs) + 4096)
+    while (status := _LIB.sst_compact(
+            runs, len(runs), True, start, len(start), end is not None, to, len(to), numbers, len(snapshots), bottom,
+            block_size, ctypes.byref(config), (ctypes.c_char * len(out)).from_buffer(out), len(out),
+            ctypes.byref(need), ctypes.byref(handles))) == _NO_ROOM:
+        out = bytearray(need.value)
+    if status == _NOT_FOUND:
+        return None
+    _demand(status)
+    return _file(out[:need.value], handles)
 
 
 class Writer:

@@ -29,6 +29,21 @@ def random_entries(seed, count):
             for key, number in rows]
 
 
+def staying(tables, snapshots, bottom, start, end):
+    """What a compaction of lists, the newest first, has to leave."""
+    merged = sorted((e for table in tables for e in table if start <= e.key and (end is None or e.key < end)),
+                    key=lambda e: (e.key, -e.seqno))
+    left = []
+    for at, entry in enumerate(merged):
+        seen = [s for s in snapshots if entry.seqno < s]
+        found = [s for s in seen if not any(e.key == entry.key and e.seqno < s for e in merged[:at])]
+        needed = any(e.key == entry.key and e.seqno < s <= entry.seqno for e in merged[at + 1:] for s in snapshots)
+        dead = bottom and entry.type == ValueType.TOMBSTONE and not needed
+        if not seen or found and not dead:
+            left.append(entry)
+    return left
+
+
 class Tables(unittest.TestCase):
     def test_few(self):
         table = sst.Table(sst.write(FEW, block_size=1))
@@ -158,6 +173,47 @@ class Tables(unittest.TestCase):
                      lambda: sst.Writer(io.BytesIO(), hash=65536)):
             with self.assertRaises(ValueError):
                 call()
+
+    def test_compact(self):
+        for seed in range(60):
+            rand = random.Random(seed)
+            lists = [random_entries(3 * seed + n, 1 + seed * 4) for n in range(rand.randrange(1, 4))]
+            tables = [sst.Table(sst.write(entries, block_size=100, hash=Hash(n % 2)), hash=Hash(n % 2))
+                      for n, entries in enumerate(lists)]
+            snapshots = [rand.choice([0, 1, 7, 500, 800, 2**63, sst.MAX_SEQNO]) for _ in range(rand.randrange(4))]
+            keys = sorted([rand.choice(lists[0]).key, rand.choice(lists[-1]).key])
+            start, end = rand.choice([b"", keys[0]]), rand.choice([None, keys[1]])
+            form = {"block_size": rand.choice([1, 2**40]), "restart_interval": 1 + seed % 17, "hash": Hash(seed // 2 % 2),
+                    "bits_per_key": seed % 3 * 5, "hash_ratio": (seed % 3, 2)}
+            left = staying(lists, snapshots, seed % 2 == 1, start, end)
+            made = sst.compact(tables, snapshots, seed % 2 == 1, start, end, **form)
+            self.assertEqual(made, sst.write(left, **form) if left else None)
+        self.assertIsNone(sst.compact([]))
+        with self.assertRaises(sst.Error) as met:
+            sst.compact([], restart_interval=0)
+        self.assertEqual(str(met.exception), "SST_BAD_ARGUMENT")
+        with self.assertRaises(ValueError):
+            sst.compact([], hash=2)
+
+    def test_merge(self):
+        for seed in range(60):
+            rand = random.Random(seed)
+            lists = [random_entries(3 * seed + n, 1 + seed * 4) for n in range(rand.randrange(1, 4))]
+            # The last one has the entries of the first with other values.
+            lists.append([Entry(e.key, e.seqno, b"w") for e in lists[0]])
+            tables = [sst.Table(sst.write(entries, block_size=100, hash=Hash(n % 2)), hash=Hash(n % 2))
+                      for n, entries in enumerate(lists)]
+            snapshots = [rand.choice([0, 1, 7, 500, 800, 2**63, sst.MAX_SEQNO]) for _ in range(rand.randrange(4))]
+            keys = sorted([rand.choice(lists[0]).key, rand.choice(lists[-1]).key])
+            start, end = rand.choice([b"", keys[0]]), rand.choice([None, keys[1]])
+            for numbers in ([], snapshots):
+                left = staying(lists, numbers, False, start, end)
+                self.assertEqual(list(sst.merge(tables, start, end, snapshots=numbers)), left)
+                below = [e for e in left if e.seqno < 500]
+                self.assertEqual(list(sst.merge(tables, start, end, 500, numbers, batch=1 + seed)), below)
+        self.assertEqual(list(sst.merge([])), [])
+        with self.assertRaises(ValueError):
+            sst.merge([], batch=0)
 
     def test_file(self):
         with tempfile.TemporaryDirectory() as room:

@@ -70,12 +70,26 @@ pub struct RunHandles {
 }
 
 #[repr(C)]
+pub struct Run {
+    pub bytes: *const u8,
+    pub len: usize,
+    pub handles: RunHandles,
+}
+
+#[repr(C)]
 #[derive(Clone, Copy, Default)]
 pub struct Window {
     pub first_block: usize,
     pub first_index: usize,
     pub end_block: usize,
     pub end_index: usize,
+}
+
+#[repr(C)]
+#[derive(Clone, Copy)]
+pub struct Merged {
+    pub run: usize,
+    pub place: Place,
 }
 
 #[repr(C)]
@@ -158,6 +172,15 @@ extern "C" {
     pub fn sst_run_scan(
         run: *const u8, len: usize, handles: *const RunHandles, window: *mut Window, has_below: u8, below: u64,
         reverse: u8, places: *mut Place, cap: usize, count: *mut usize,
+    ) -> c_uint;
+    pub fn sst_merge_scan(
+        runs: *const Run, run_count: usize, windows: *mut Window, window_count: usize, has_below: u8, below: u64,
+        snapshots: *const u64, snapshot_count: usize, merged: *mut Merged, cap: usize, count: *mut usize,
+    ) -> c_uint;
+    pub fn sst_compact(
+        runs: *const Run, run_count: usize, has_from: u8, from: *const u8, from_len: usize, has_to: u8, to: *const u8,
+        to_len: usize, snapshots: *const u64, snapshot_count: usize, is_bottom: u8, block_size: usize,
+        config: *const RunConfig, out: *mut u8, cap: usize, len: *mut usize, handles: *mut RunHandles,
     ) -> c_uint;
     pub fn sst_footer_read(file: *const u8, len: usize, handles: *mut RunHandles) -> c_uint;
     pub fn sst_footer_write(

@@ -21,15 +21,22 @@
 //! # }
 //! ```
 //!
+//! [`Merge`] reads several tables in one order, and [`compact`] makes one of them. A table without its footer is a
+//! [`Run`].
+//!
 //! Bytes by the other hash function, [`Hash::Poly31`], are for the calls that end in `_by`, and for a
 //! [`Config`] with this `hash`.
 mod block;
 mod ffi;
+mod merge;
+mod run;
 mod table;
 
 pub use block::{Block, BlockHandle, BlockType, DataBlock, IndexBlock, Iter, KeyedBlockHandle};
 pub use block::{StandardBloomFilterReader, build_filter, build_filter_by};
-pub use table::{CheckEnd, Config, Range, Summary, Table, Writer, write_table};
+pub use merge::Merge;
+pub use run::{CheckEnd, Range, Run, RunHandles, Summary};
+pub use table::{Config, Table, Writer, compact, write_table};
 
 use std::borrow::Cow;
 use std::cmp::Ordering;

@@ -1,7 +1,8 @@
 //! Table files.
-use crate::{BlockHandle, BlockType, Entry, Error, Hash, Result, SeqNo, ValueType, demand, ffi, given};
+use crate::run::bounds;
+use crate::{BlockHandle, CheckEnd, Entry, Error, Hash, Result, Run, SeqNo, ValueType, demand, ffi, given};
 use std::io::{self, Write};
-use std::ops::{Bound, RangeBounds};
+use std::ops::{Deref, RangeBounds};
 
 const FOOTER_LEN: usize = 24;
 
@@ -228,6 +229,61 @@ impl<W: Write> Writer<W> {
     }
 }
 
+/// Compacts tables into one table file; `None` where no entry stays. The newest table stands first: of entries with
+/// the same key and sequence number those of the earlier table come first. Of each table only the entries of a range of
+/// keys are taken.
+///
+/// The entries stay that a read below one of the snapshots, or below any number that is at least as large as
+/// all of them, can find; without snapshots all. `is_bottom` says that no older version of a key in the range is
+/// elsewhere: tombstones that are below a snapshot, and hide nothing that stays, go then.
+///
+/// The tables may be by either hash function; [`Config::hash`] is that of the new one. A block ends with the
+/// entry with which its entries have [`Config::block_size`] bytes as they are encoded, where keys share prefixes.
+///
+/// ```
+/// # use sst::{Config, Entry, Table, ValueType, compact, write_table};
+/// # fn main() -> sst::Result<()> {
+/// let newer = write_table(&[Entry::new(b"ann", 7, ValueType::Tombstone, b"")], &Config::default())?;
+/// let older = [Entry::new(b"ann", 2, ValueType::Value, b"x"), Entry::new(b"bob", 3, ValueType::Value, b"y")];
+/// let older = write_table(&older, &Config::default())?;
+/// let tables = [Table::check(&newer)?, Table::check(&older)?];
+/// let all = compact::<[u8], _>(&tables, .., &[8], true, &Config::default())?.unwrap();
+/// assert_eq!(Table::check(&all)?.iter().map(|entry| entry.seqno).collect::<Vec<_>>(), [3]);
+/// assert_eq!(compact::<&str, _>(&tables, ..="ann", &[8], true, &Config::default())?, None);
+/// # Ok(())
+/// # }
+/// ```
+///
+/// # Errors
+///
+/// [`Error::BadArgument`] where an interval or the denominator is 0; [`Error::TooLong`] where what stays does not fit a
+/// table, [`Error::Memory`].
+pub fn compact<K: AsRef<[u8]> + ?Sized, R: RangeBounds<K>>(
+    tables: &[Table<'_>], keys: R, snapshots: &[SeqNo], is_bottom: bool, config: &Config,
+) -> Result<Option<Vec<u8>>> {
+    let runs: Vec<_> = tables.iter().map(|table| table.given()).collect();
+    let (from, to) = bounds(keys);
+    let (none, given) = (Vec::new(), config.given());
+    let (start, end) = (from.as_ref().unwrap_or(&none), to.as_ref().unwrap_or(&none));
+    let mut handles = ffi::RunHandles::default();
+    let room = runs.iter().map(|run| run.len).sum::<usize>() + 4096;
+    let made = ffi::filled(room, |out, cap, len| unsafe {
+        ffi::sst_compact(
+            runs.as_ptr(), runs.len(), from.is_some().into(), start.as_ptr(), start.len(), to.is_some().into(),
+            end.as_ptr(), end.len(), snapshots.as_ptr(), snapshots.len(), is_bottom.into(), config.block_size, &given,
+            out, cap, len, &mut handles,
+        )
+    });
+    match made {
+        Ok(mut file) => {
+            file.extend(footer(&handles)?);
+            Ok(Some(file))
+        }
+        Err(ffi::NOT_FOUND) => Ok(None),
+        Err(status) => Err(Error::of(status)),
+    }
+}
+
 // The bytes that end a table file.
 fn footer(handles: &ffi::RunHandles) -> Result<Vec<u8>> {
     let footer = ffi::filled(FOOTER_LEN, |out, cap, len| unsafe {
@@ -236,56 +292,26 @@ fn footer(handles: &ffi::RunHandles) -> Result<Vec<u8>> {
     footer.map_err(Error::of)
 }
 
-/// What a check of a table counts.
-#[derive(Clone, Copy, Debug, PartialEq, Eq)]
-pub struct Summary {
-    /// The number of blocks.
-    pub blocks: usize,
-    /// The number of entries.
-    pub entries: u64,
-    /// The least sequence number.
-    pub least_seqno: SeqNo,
-    /// The greatest sequence number.
-    pub greatest_seqno: SeqNo,
-}
-
-/// Where a check of a table ended: the frame that it read last, by its handle.
-#[derive(Clone, Copy, Debug, PartialEq, Eq)]
-pub struct CheckEnd {
-    /// The type of the frame.
-    pub block_type: BlockType,
-    /// The index of the data block; 0 for index and filter.
-    pub block: usize,
-    /// Where the frame is.
-    pub handle: BlockHandle,
-}
-
-/// A table file over bytes that are borrowed, such as a mapped file. Reads test nothing and copy nothing.
+/// A table file over bytes that are borrowed, such as a mapped file: a [`Run`], whose calls it has, and a footer.
 #[derive(Clone, Copy)]
-pub struct Table<'a> {
-    run: &'a [u8],
-    handles: ffi::RunHandles,
-    hash: Hash,
-}
+pub struct Table<'a>(Run<'a>);
 
 impl<'a> Table<'a> {
-    fn open(file: &'a [u8], hash: Hash) -> Result<Table<'a>> {
+    // The run before a footer. No check accepted it.
+    fn run(file: &'a [u8], hash: Hash) -> Result<Run<'a>> {
         let mut handles = ffi::RunHandles::default();
         demand(unsafe { ffi::sst_footer_read(file.as_ptr(), file.len(), &mut handles) })?;
-        Ok(Table { run: &file[..file.len() - FOOTER_LEN], handles, hash })
+        Ok(Run::over(&file[..file.len() - FOOTER_LEN], handles, hash))
     }
 
-    /// Checks all bytes of a file, as [`Table::verify`] does.
+    /// Checks all bytes of a file, as [`Run::verify`] does.
     pub fn check(file: &'a [u8]) -> Result<Table<'a>> {
         Table::check_by(file, Hash::Xxh3)
     }
 
-    /// Checks all bytes of a file that was written by this hash function. One by another is refused, mostly as
-    /// [`Error::ChecksumMismatch`].
+    /// Checks all bytes of a file that was written by this hash function, as [`Run::check_by`] does.
     pub fn check_by(file: &'a [u8], hash: Hash) -> Result<Table<'a>> {
-        let table = Table::open(file, hash)?;
-        table.verify()?;
-        Ok(table)
+        Ok(Table(Table::run(file, hash)?.checked()?))
     }
 
     /// Takes a file and tests nothing but its length.
@@ -294,7 +320,7 @@ impl<'a> Table<'a> {
     ///
     /// [`Table::check`] accepted the file, or [`write_table`] or the library wrote it.
     pub unsafe fn trusted(file: &'a [u8]) -> Result<Table<'a>> {
-        Table::open(file, Hash::Xxh3)
+        Table::trusted_by(file, Hash::Xxh3)
     }
 
     /// Takes a file by this hash function, and tests nothing but its length.
@@ -304,17 +330,7 @@ impl<'a> Table<'a> {
     /// [`Table::check_by`] accepted the file with this hash function, or [`write_table`] or the library wrote it
     /// with this one.
     pub unsafe fn trusted_by(file: &'a [u8], hash: Hash) -> Result<Table<'a>> {
-        Table::open(file, hash)
-    }
-
-    /// Checks all bytes again, and returns what was counted. Refuses by what is met first.
-    pub fn verify(&self) -> Result<Summary> {
-        let mut found = ffi::Summary::default();
-        demand(unsafe {
-            ffi::sst_run_check(self.run.as_ptr(), self.run.len(), &self.handles, self.hash.number(), &mut found)
-        })?;
-        let ffi::Summary { blocks, entries, least_seqno, greatest_seqno } = found;
-        Ok(Summary { blocks, entries, least_seqno, greatest_seqno })
+        Table::run(file, hash).map(Table)
     }
 
     /// Checks all bytes of a file again that [`Table::check`] refused, and returns where the check ended. There
@@ -325,124 +341,20 @@ impl<'a> Table<'a> {
 
     /// Returns where the check of a file by this hash function ended, as [`Table::refused_at`] does.
     pub fn refused_at_by(file: &[u8], hash: Hash) -> Option<CheckEnd> {
-        let Table { run, handles, .. } = Table::open(file, hash).ok()?;
-        let (mut found, mut end) = (ffi::Summary::default(), ffi::CheckEnd::default());
-        let status = unsafe {
-            ffi::sst_run_check_at(run.as_ptr(), run.len(), &handles, hash.number(), &mut found, &mut end)
-        };
-        (status != 0 && status != ffi::MEMORY).then(|| CheckEnd {
-            block_type: [BlockType::Data, BlockType::Index, BlockType::Filter][usize::from(end.part)],
-            block: end.block,
-            handle: BlockHandle { offset: end.offset, size: end.size },
-        })
-    }
-
-    /// Returns the first entry of a key strictly below a sequence number, a tombstone too.
-    pub fn get(&self, key: &[u8], seqno: SeqNo) -> Option<Entry<'a>> {
-        let mut at = ffi::Place::default();
-        let status = unsafe {
-            ffi::sst_run_get(
-                self.run.as_ptr(), self.run.len(), &self.handles, self.hash.number(), key.as_ptr(), key.len(),
-                seqno, &mut at,
-            )
-        };
-        (status != ffi::NOT_FOUND).then(|| Entry::at(self.run, &at))
-    }
-
-    /// Returns an iterator over all entries, from both ends.
-    pub fn iter(&self) -> Range<'a> {
-        self.range::<[u8], _>(..)
-    }
-
-    /// Returns an iterator over the entries of a range of keys, from both ends: all versions, tombstones
-    /// too.
-    pub fn range<K: AsRef<[u8]> + ?Sized, R: RangeBounds<K>>(&self, keys: R) -> Range<'a> {
-        self.range_under(keys, None)
-    }
-
-    /// Returns an iterator over the entries of a range of keys with sequence numbers strictly below one.
-    pub fn range_below<K: AsRef<[u8]> + ?Sized, R: RangeBounds<K>>(&self, keys: R, seqno: SeqNo) -> Range<'a> {
-        self.range_under(keys, Some(seqno))
-    }
-
-    fn range_under<K: AsRef<[u8]> + ?Sized, R: RangeBounds<K>>(&self, keys: R, seqno: Option<SeqNo>) -> Range<'a> {
-        // The least key above another is that with a byte 0 more.
-        let above = |key: &K| [key.as_ref(), &[0]].concat();
-        let from = match keys.start_bound() {
-            Bound::Included(key) => Some(key.as_ref().to_vec()),
-            Bound::Excluded(key) => Some(above(key)),
-            Bound::Unbounded => None,
-        };
-        let to = match keys.end_bound() {
-            Bound::Included(key) => Some(above(key)),
-            Bound::Excluded(key) => Some(key.as_ref().to_vec()),
-            Bound::Unbounded => None,
-        };
-        let (mut window, none) = (ffi::Window::default(), Vec::new());
-        let (start, end) = (from.as_ref().unwrap_or(&none), to.as_ref().unwrap_or(&none));
-        unsafe {
-            ffi::sst_run_range(
-                self.run.as_ptr(), self.run.len(), &self.handles, from.is_some().into(), start.as_ptr(), start.len(),
-                to.is_some().into(), end.as_ptr(), end.len(), &mut window,
-            )
-        };
-        Range { table: *self, window, seqno, front: Vec::new().into_iter(), back: Vec::new().into_iter() }
+        Table::run(file, hash).ok()?.refusal()
     }
 }
 
-/// The number of places that are read at once.
-const BATCH: usize = 64;
+impl<'a> Deref for Table<'a> {
+    type Target = Run<'a>;
 
-/// An iterator over the entries of a range of keys. It keeps the places of a batch for each end.
-pub struct Range<'a> {
-    table: Table<'a>,
-    window: ffi::Window,
-    seqno: Option<SeqNo>,
-    // What is left of the last batch from each end, in the order in which it was read.
-    front: std::vec::IntoIter<ffi::Place>,
-    back: std::vec::IntoIter<ffi::Place>,
-}
-
-impl<'a> Range<'a> {
-    // The next batch from an end.
-    fn batch(&mut self, reverse: bool) -> std::vec::IntoIter<ffi::Place> {
-        let (mut places, mut count) = (Vec::<ffi::Place>::with_capacity(BATCH), 0);
-        let status = unsafe {
-            ffi::sst_run_scan(
-                self.table.run.as_ptr(), self.table.run.len(), &self.table.handles, &mut self.window,
-                self.seqno.is_some().into(), self.seqno.unwrap_or(0), reverse.into(), places.as_mut_ptr(), BATCH,
-                &mut count,
-            )
-        };
-        debug_assert_eq!(status, 0);
-        // The call wrote so many places; of a window that is none of the run's it writes none.
-        unsafe { places.set_len(count) };
-        places.into_iter()
-    }
-
-    fn entry(&self, at: &ffi::Place) -> Entry<'a> {
-        Entry::at(self.table.run, at)
+    fn deref(&self) -> &Run<'a> {
+        &self.0
     }
 }
 
-impl<'a> Iterator for Range<'a> {
-    type Item = Entry<'a>;
-
-    fn next(&mut self) -> Option<Entry<'a>> {
-        if self.front.len() == 0 {
-            self.front = self.batch(false);
-        }
-        let at = self.front.next().or_else(|| self.back.next_back())?;
-        Some(self.entry(&at))
-    }
-}
-
-impl DoubleEndedIterator for Range<'_> {
-    fn next_back(&mut self) -> Option<Self::Item> {
-        if self.back.len() == 0 {
-            self.back = self.batch(true);
-        }
-        let at = self.back.next().or_else(|| self.front.next_back())?;
-        Some(self.entry(&at))
+impl<'a> AsRef<Run<'a>> for Table<'a> {
+    fn as_ref(&self) -> &Run<'a> {
+        self
     }
 }

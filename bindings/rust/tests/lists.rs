@@ -1,6 +1,7 @@
 //! Blocks and tables of random lists, beside the lists.
 use sst::{Block, BlockHandle, BlockType, Config, DataBlock, Entry, Error, Hash, IndexBlock, KeyedBlockHandle};
-use sst::{StandardBloomFilterReader, Table, ValueType, Writer, build_filter, build_filter_by, write_table};
+use sst::{Merge, Run, RunHandles, StandardBloomFilterReader, Table, ValueType, Writer};
+use sst::{build_filter, build_filter_by, compact, write_table};
 use std::cell::Cell;
 use std::io::Write;
 use std::ops::Bound;
@@ -227,6 +228,102 @@ fn changed_bytes_are_refused() {
     assert_eq!(refused(writer.add(&Entry::new(b"b", 6, ValueType::Value, b""))), Some(Error::OutOfOrder));
     writer.add(&Entry::new(b"b", 5, ValueType::Value, b"")).unwrap();
     assert_eq!(Table::check(&writer.finish().unwrap()).unwrap().iter().count(), 2);
+}
+
+/// What a compaction of lists, the newest first, has to leave.
+fn staying<'a>(lists: &[Vec<Entry<'a>>], snapshots: &[u64], is_bottom: bool, from: &[u8]) -> Vec<Entry<'a>> {
+    let mut all: Vec<Entry<'a>> = lists.concat();
+    all.retain(|entry| entry.cmp_key(from).is_gt());
+    all.sort_by(|a, b| a.key().cmp(&b.key()).then(b.seqno.cmp(&a.seqno)));
+    let stays = |at: &usize| {
+        let (entry, same) = (&all[*at], |other: &&Entry| other.key() == all[*at].key());
+        let seen = || snapshots.iter().filter(|snapshot| entry.seqno < **snapshot);
+        let is_found = |s: &u64| !all[..*at].iter().filter(same).any(|newer| newer.seqno < *s);
+        let hides = |older: &Entry| snapshots.iter().any(|s| older.seqno < *s && *s <= entry.seqno);
+        let goes = is_bottom && entry.is_tombstone() && !all[at + 1..].iter().filter(same).any(hides);
+        seen().count() == 0 || (seen().any(is_found) && !goes)
+    };
+    (0..all.len()).filter(stays).map(|at| all[at]).collect()
+}
+
+#[test]
+fn compactions_leave_what_is_read() {
+    for seed in 0..60 {
+        let mut random = Random(seed);
+        let lists: Vec<_> = (0..3).map(|n| rows(seed * 3 + n, 1 + seed as usize * 4)).collect();
+        let lists: Vec<_> = lists.iter().map(|rows| entries(rows)).collect();
+        let small = Config { block_size: 100, ..Config::default() };
+        let by = |n: usize| Config { hash: HASHES[n % 2].0, ..small };
+        let files: Vec<_> = lists.iter().enumerate().map(|(n, list)| write_table(list, &by(n)).unwrap()).collect();
+        let checked = |n: usize| Table::check_by(&files[n], HASHES[n % 2].0).unwrap();
+        let tables: Vec<_> = (0..3).map(checked).collect();
+        let snapshots: Vec<_> = (0..random.below(5)).map(|_| random.below(55)).collect();
+        let from = lists[0][random.below(lists[0].len() as u64) as usize].key();
+        let config = Config {
+            block_size: [1, 1 << 30][seed as usize % 2],
+            restart_interval: 1 + seed as u8 % 17,
+            hash_ratio: (seed as u32 % 3, 2),
+            ..by(seed as usize / 2)
+        };
+        let is_bottom = seed % 3 > 0;
+        let left = staying(&lists, &snapshots, is_bottom, &from);
+        let made = compact::<[u8], _>(&tables, (Bound::Excluded(&*from), Bound::Unbounded), &snapshots, is_bottom, &config);
+        assert_eq!(made.unwrap(), (!left.is_empty()).then(|| write_table(&left, &config).unwrap()));
+    }
+    let config = Config::default();
+    assert_eq!(compact::<[u8], _>(&[], .., &[], false, &config), Ok(None));
+    let none = Config { restart_interval: 0, ..config };
+    assert_eq!(compact::<[u8], _>(&[], .., &[], false, &none), Err(Error::BadArgument));
+}
+
+#[test]
+fn merges_are_their_lists_in_order() {
+    for seed in 0..60 {
+        let mut random = Random(seed);
+        let mut lists: Vec<_> = (0..3).map(|n| rows(seed * 3 + n, 1 + seed as usize * 4)).collect();
+        // The last one has the entries of the first with other values.
+        lists.push(lists[0].iter().map(|row| (row.0.clone(), row.1, ValueType::Value, vec![b'w'])).collect());
+        let lists: Vec<_> = lists.iter().map(|rows| entries(rows)).collect();
+        let by = |n: usize| Config { block_size: 100, hash: HASHES[n % 2].0, ..Config::default() };
+        let files: Vec<_> = lists.iter().enumerate().map(|(n, list)| write_table(list, &by(n)).unwrap()).collect();
+        let checked = |n: usize| Table::check_by(&files[n], HASHES[n % 2].0).unwrap();
+        let tables = [0, 1, 2, 3].map(checked);
+        let snapshots: Vec<_> = (0..random.below(5)).map(|_| random.below(55)).collect();
+        let from = lists[0][random.below(lists[0].len() as u64) as usize].key();
+        let merge = || Merge::range::<[u8], _>(&tables, (Bound::Excluded(&*from), Bound::Unbounded));
+        for snapshots in [&[][..], &snapshots] {
+            let left = staying(&lists, snapshots, false, &from);
+            let below: Vec<_> = left.iter().copied().filter(|entry| entry.seqno < 25).collect();
+            assert_eq!(merge().snapshots(snapshots).collect::<Result<Vec<_>, _>>(), Ok(left));
+            assert_eq!(merge().below(25).snapshots(snapshots).collect::<Result<Vec<_>, _>>(), Ok(below));
+        }
+        let runs: Vec<Run> = tables.iter().map(|table| **table).collect();
+        assert!(Merge::new(&runs).eq(Merge::new(&tables.iter().collect::<Vec<_>>())));
+        assert_eq!(Merge::new(&tables).count(), lists.concat().len());
+    }
+    assert!(Merge::new(&[] as &[Table]).next().is_none());
+}
+
+#[test]
+fn runs_are_tables_without_footers() {
+    for (hash, other) in HASHES {
+        let rows = rows(7, 100);
+        for bits_per_key in [0, 10] {
+            let file = write_table(&entries(&rows), &Config { bits_per_key, hash, ..Config::default() }).unwrap();
+            let table = Table::check_by(&file, hash).unwrap();
+            let (bytes, handles) = (table.bytes(), table.handles());
+            assert_eq!((bytes.len() + 24, handles.filter.is_some()), (file.len(), bits_per_key > 0));
+            let run = Run::check_by(bytes, handles, hash).unwrap();
+            assert!(run.iter().eq(table.iter()) && run.handles() == handles && run.verify() == table.verify());
+            assert!(unsafe { Run::trusted_by(bytes, handles, hash) }.iter().rev().eq(table.iter().rev()));
+            assert_eq!(Run::check_by(bytes, handles, other).err(), Some(Error::ChecksumMismatch));
+            assert_eq!(Run::refused_at_by(bytes, handles, hash), None);
+            let wrong = RunHandles { filter: Some(handles.index), ..handles };
+            assert_eq!(Run::check_by(bytes, wrong, hash).err(), Some(Error::InvalidTag));
+            let end = Run::refused_at_by(bytes, wrong, hash).unwrap();
+            assert_eq!((end.block_type, end.handle), (BlockType::Filter, handles.index));
+        }
+    }
 }
 
 #[test]
