@@ -1,7 +1,7 @@
 // Sources that fail: an error ends them, and all that is made of them.
 ghost use Rattle.std.specs.Prelude.{None};
 
-use crate::merges::lists::{Memory, Row, T, V, list_of};
+use crate::merges::lists::{Memory, Row, T, V, list_of, push_made};
 use sst_base::{ByteSum, Error, HashRatio, InternalValue, Output, Result, SeqNo, UserKey};
 use sst_merge::{
     Compact, Head, Merge, Ranked, Rev, Reversed, Sizes, Snapshot, Source, write_table,
@@ -127,12 +127,24 @@ fn counts_of<T: Drop, I: Source<T> + Drop>(alloc: Global, source: I) -> (usize, 
 
 /// The merge of a source.
 fn merge_of<T: Ranked + Drop, I: Source<T> + Drop>(
-    rt: &impl Abort,
     alloc: Global,
     source: I,
-) -> Merge<T, I> {
-    let head = Head::new(alloc, source).expect(rt, "the first version");
-    Merge::new(vec![in alloc; head].expect(rt, "a source"))
+) -> Result<Merge<T, I>> {
+    let mut heads = Vec::new(alloc);
+    push_made(&mut heads, Head::new(alloc, source))?;
+    Ok(Merge::new(heads))
+}
+
+/// What is counted of a merge of a source that fails after so many steps.
+fn counts_merged(rt: &impl Abort, alloc: Global, steps: usize) -> Result<(usize, bool)> {
+    let merged: Merge<InternalValue, _> = merge_of(alloc, failing_after(rt, alloc, steps))?;
+    Ok(counts_of(alloc, merged))
+}
+
+/// What is counted of a snapshot of such a source.
+fn counts_seen(rt: &impl Abort, alloc: Global, steps: usize) -> (usize, bool) {
+    let source = failing_after(rt, alloc, steps);
+    counts_of(alloc, Snapshot::new(source, u64::MAX))
 }
 
 /// What is counted of a compaction of a source that fails.
@@ -151,20 +163,22 @@ fn counts_compacted(
 // which holds the first version of each source, so it fails a step earlier, of a snapshot, and of a
 // compaction.
 fn check_counts(rt: &impl Abort, alloc: Global, steps: usize, shown: usize) {
-    let merged: Merge<InternalValue, _> = merge_of(rt, alloc, failing_after(rt, alloc, steps));
-    assert_eq!(rt; counts_of(alloc, merged), (steps.saturating_sub(1), true));
-    let seen = Snapshot::new(failing_after(rt, alloc, steps), u64::MAX);
-    assert_eq!(rt; counts_of(alloc, seen), (shown, true));
-    let compacted = counts_compacted(rt, alloc, failing_after(rt, alloc, steps), &[6], false);
-    assert_eq!(rt; compacted, (steps, true));
+    assert!(rt; counts_merged(rt, alloc, steps) == Ok((steps.saturating_sub(1), true)));
+    assert!(rt; counts_seen(rt, alloc, steps) == (shown, true));
+    let source = failing_after(rt, alloc, steps);
+    assert!(rt; counts_compacted(rt, alloc, source, &[6], false) == (steps, true));
+}
+
+/// Whether no merge begins with a source that fails at once.
+fn is_refused(rt: &impl Abort, alloc: Global) -> bool {
+    Head::new(alloc, failing_after(rt, alloc, 0)).is_err()
 }
 
 #[test]
 fn a_failed_step_ends_what_is_made_of_its_source(rt: HostRuntime) {
-    let alloc = rt.alloc();
-    assert!(rt; Head::new(alloc, failing_after(&rt, alloc, 0)).is_err());
+    assert!(rt; is_refused(&rt, rt.alloc()));
     for (steps, shown) in &[(1usize, 1usize), (2, 1), (3, 2), (4, 3)] {
-        check_counts(&rt, alloc, *steps, *shown);
+        check_counts(&rt, rt.alloc(), *steps, *shown);
     }
 }
 
@@ -186,15 +200,24 @@ fn a_failed_look_ahead_ends_a_compaction(rt: HostRuntime) {
 /// A merge from the back of a source that fails.
 type MergeBack = Merge<Reversed<InternalValue>, Failing<Rev<Memory>>>;
 
+/// Whether no merge from the back begins with a source that fails at once.
+fn is_refused_back(rt: &impl Abort, alloc: Global) -> bool {
+    let merged: Result<MergeBack> = merge_of(alloc, failing_back_after(rt, alloc, 0));
+    merged.is_err()
+}
+
+/// What is counted of a merge from the back of a source that fails after so many steps.
+fn counts_merged_back(rt: &impl Abort, alloc: Global, steps: usize) -> Result<(usize, bool)> {
+    let merged: MergeBack = merge_of(alloc, failing_back_after(rt, alloc, steps))?;
+    Ok(counts_of(alloc, merged))
+}
+
 #[test]
 fn a_failed_step_ends_a_merge_from_the_back(rt: HostRuntime) {
     let alloc = rt.alloc();
-    assert!(rt;
-        Head::<Reversed<InternalValue>, _>::new(alloc, failing_back_after(&rt, alloc, 0)).is_err()
-    );
+    assert!(rt; is_refused_back(&rt, alloc));
     for steps in 1..5usize {
-        let merged: MergeBack = merge_of(&rt, alloc, failing_back_after(&rt, alloc, steps));
-        assert_eq!(rt; counts_of(alloc, merged), (steps - 1, true));
+        assert!(rt; counts_merged_back(&rt, alloc, steps) == Ok((steps - 1, true)));
     }
 }
 
@@ -247,13 +270,20 @@ fn keeps<I: Source<InternalValue> + Drop>(
         && counts(alloc, &mut merged, Error::Io) == (0, true)
 }
 
+/// The same of the merge of such a source.
+fn is_kept(rt: &impl Abort, alloc: Global, steps: usize, seqno: SeqNo) -> Result<bool> {
+    let merged = merge_of(alloc, failing_after(rt, alloc, steps))?;
+    Ok(keeps(alloc, merged, steps, seqno))
+}
+
 // The version that the step was to pass is still shown.
 #[test]
 fn a_version_is_not_passed_by_a_failed_step(rt: HostRuntime) {
-    let alloc = rt.alloc();
     for steps in 1..5usize {
-        let merged = merge_of(&rt, alloc, failing_after(&rt, alloc, steps));
-        assert!(rt; keeps(alloc, merged, steps, ROWS[steps - 1].1), "{steps}");
+        assert!(rt;
+            is_kept(&rt, rt.alloc(), steps, ROWS[steps - 1].1) == Ok(true),
+            "{steps}"
+        );
     }
 }
 
@@ -301,35 +331,53 @@ fn has_ended<I: Source<InternalValue>>(
     taken == wanted && passed == wanted && table == wanted
 }
 
-// Checks that writing a table of a source fails with an error, and that this one has then ended the
-// source.
-fn check_ends<I: Source<InternalValue> + Drop, W: Output + Drop>(
-    rt: &impl Abort,
+/// The error of writing a table of a source, and whether the source has then ended with this one.
+fn ends_with<I: Source<InternalValue>, W: Output + Drop>(
+    alloc: Global,
+    source: &mut Head<InternalValue, I>,
+    writer: W,
+    wanted: Error,
+) -> (Option<Error>, bool) {
+    let found = written(alloc, source, writer).err();
+    (found, has_ended(alloc, source, wanted))
+}
+
+/// The same of a source that is let go.
+fn ends_by<I: Source<InternalValue> + Drop, W: Output + Drop>(
     alloc: Global,
     source: I,
     writer: W,
     wanted: Error,
-) {
-    let mut source = Head::new(alloc, source).expect(rt, "the first version");
-    assert!(rt; written(alloc, &mut source, writer).err() == Some(wanted));
-    assert!(rt; has_ended(alloc, &mut source, wanted));
+) -> Result<(Option<Error>, bool)> {
+    match Head::new(alloc, source) {
+        Ok(mut source) => Ok(ends_with(alloc, &mut source, writer, wanted)),
+        Err(error) => Err(error),
+    }
+}
+
+/// What ends a source whose table is written to an output that fails.
+fn ends_by_output(rt: &impl Abort, alloc: Global) -> Result<(Option<Error>, bool)> {
+    let list = list_of(rt, alloc, ROWS, 0);
+    ends_by(alloc, list.into_iter(), Full, Error::Io)
+}
+
+/// What ends a source that is out of order.
+fn ends_by_order(rt: &impl Abort, alloc: Global) -> Result<(Option<Error>, bool)> {
+    let list = list_of(rt, alloc, &[Row(b'b', 1, V), Row(b'a', 1, V)], 0);
+    ends_by(alloc, list.into_iter(), Vec::new(alloc), Error::OutOfOrder)
+}
+
+/// What ends a source that fails.
+fn ends_by_source(rt: &impl Abort, alloc: Global) -> Result<(Option<Error>, bool)> {
+    let source = failing_after(rt, alloc, 2);
+    ends_by(alloc, source, Vec::new(alloc), Error::Io)
 }
 
 // Entries are taken for a block before it is written, so none of them is given again.
 #[test]
 fn a_table_that_is_not_written_ends_its_source(rt: HostRuntime) {
     let alloc = rt.alloc();
-    let list = list_of(&rt, alloc, ROWS, 0);
-    check_ends(&rt, alloc, list.into_iter(), Full, Error::Io);
-    let turned = [Row(b'b', 1, V), Row(b'a', 1, V)];
-    let list = list_of(&rt, alloc, &turned, 0);
-    check_ends(
-        &rt,
-        alloc,
-        list.into_iter(),
-        Vec::new(alloc),
-        Error::OutOfOrder,
-    );
-    let source = failing_after(&rt, alloc, 2);
-    check_ends(&rt, alloc, source, Vec::new(alloc), Error::Io);
+    assert!(rt; ends_by_output(&rt, alloc) == Ok((Some(Error::Io), true)));
+    assert!(rt; ends_by_order(&rt, alloc) == Ok((Some(Error::OutOfOrder), true)));
+    assert!(rt; ends_by_source(&rt, alloc) == Ok((Some(Error::Io), true)));
 }

@@ -174,18 +174,20 @@ fn check_steps<T: Keyed + AsEntry + Drop, I: Movable<T>>(
 
 /// The merge of three sources that were not moved.
 fn merge_of<T: Keyed, I: Movable<T> + Drop>(
-    rt: &impl Abort,
     alloc: Global,
-    first: I,
-    second: I,
-    third: I,
-) -> MovableMerge<T, I>
-    requires first { IsFreshSource T.cmp (I.moved first) }
-    requires second { IsFreshSource T.cmp (I.moved second) }
-    requires third { IsFreshSource T.cmp (I.moved third) }
+    first: Result<I>,
+    second: Result<I>,
+    third: Result<I>,
+) -> Result<MovableMerge<T, I>>
+    requires first { IfOk first (λ s. IsFreshSource T.cmp (I.moved s)) }
+    requires second { IfOk second (λ s. IsFreshSource T.cmp (I.moved s)) }
+    requires third { IfOk third (λ s. IsFreshSource T.cmp (I.moved s)) }
 {
-    let sources = vec![in alloc; first, second, third].expect(rt, "three sources");
-    MovableMerge::new(sources)
+    let mut sources = Vec::new(alloc);
+    sources.push(first?)?;
+    sources.push(second?)?;
+    sources.push(third?)?;
+    Ok(MovableMerge::new(sources))
 }
 
 /// Takes all steps of a merge of three lists, up to the first error.
@@ -200,12 +202,11 @@ fn check_lists(
     assert!(rt; InternalValue::are_ordered(second));
     assert!(rt; InternalValue::are_ordered(third));
     let mut merge = merge_of(
-        rt,
         alloc,
-        MovableList::new(first),
-        MovableList::new(second),
-        MovableList::new(third),
-    );
+        Ok(MovableList::new(first)),
+        Ok(MovableList::new(second)),
+        Ok(MovableList::new(third)),
+    )?;
     check_steps(rt, alloc, &mut merge)
 }
 
@@ -248,12 +249,11 @@ fn check_blocks<'x>(
     requires third { AreEntryBlocks (block_lists third.now) }
 {
     let mut merge = merge_of(
-        rt,
         alloc,
-        MovableBlocks::new(first),
-        MovableBlocks::new(second),
-        MovableBlocks::new(third),
-    );
+        Ok(MovableBlocks::new(first)),
+        Ok(MovableBlocks::new(second)),
+        Ok(MovableBlocks::new(third)),
+    )?;
     check_steps(rt, alloc, &mut merge)
 }
 
@@ -355,13 +355,13 @@ fn check_to_error(
 
 /// The same of a merge of three tables, the second of which fails at a frame.
 fn take_steps(rt: &impl Abort, alloc: Global, fails_at: usize) -> Result<()> {
-    let second = match table_of(rt, alloc, &SECOND, 2, fails_at) {
-        Ok(table) => table,
-        Err(error) => return Err(error),
-    };
-    let first = table_of(rt, alloc, &FIRST, 1, usize::MAX).expect(rt, "the first table");
-    let third = table_of(rt, alloc, &THIRD, 3, usize::MAX).expect(rt, "the third table");
-    check_to_error(rt, alloc, &mut merge_of(rt, alloc, first, second, third))
+    let mut merge = merge_of(
+        alloc,
+        table_of(rt, alloc, &FIRST, 1, usize::MAX),
+        table_of(rt, alloc, &SECOND, 2, fails_at),
+        table_of(rt, alloc, &THIRD, 3, usize::MAX),
+    )?;
+    check_to_error(rt, alloc, &mut merge)
 }
 
 #[test]
