@@ -157,21 +157,34 @@ std::vector<row> staying(const std::vector<std::vector<row>> &tables, const std:
     return left;
 }
 
-/* Compactions of three tables by either hash function. */
-void check_compactions() {
-    for (unsigned seed = 0; seed < 60; seed++) {
-        std::vector<std::vector<row>> rows;
-        std::vector<std::vector<uint8_t>> files;
-        std::vector<sst::table> tables;
-        for (unsigned n = 0; n < 3; n++) {
+/* Four tables by either hash function, of which the last one has the entries of the first with other values; and
+   snapshots. */
+struct several {
+    std::vector<std::vector<row>> rows;
+    std::vector<std::vector<uint8_t>> files;
+    std::vector<sst::table> tables;
+    std::vector<uint64_t> snapshots;
+
+    explicit several(unsigned seed) {
+        for (unsigned n = 0; n < 4; n++) {
             uint16_t hash = (seed + n) % 2;
-            rows.push_back(rows_of(seed * 3 + n, 1 + seed * 7));
+            rows.push_back(rows_of(seed * 3 + n % 3, 1 + seed * 7));
+            if (n == 3)
+                for (row &r : rows.back()) r.type = SST_VALUE, r.value = "w";
             files.push_back(file_of(rows.back(), 100, {n, 2, 10, 4, 1, hash}));
-            tables.push_back(sst::table::check(sst::bytes(std::span<const uint8_t>(files.back())), static_cast<sst_hash>(hash)));
+            sst::bytes lent(std::span<const uint8_t>(files.back()));
+            tables.push_back(sst::table::check(lent, static_cast<sst_hash>(hash)));
         }
         std::mt19937 random(seed);
-        std::vector<uint64_t> snapshots;
         for (unsigned n = random() % 5; n > 0; n--) snapshots.push_back(random() % 55);
+    }
+};
+
+/* Compactions of several tables. */
+void check_compactions() {
+    for (unsigned seed = 0; seed < 60; seed++) {
+        const several several(seed);
+        const auto &[rows, files, tables, snapshots] = several;
         bool is_bottom = seed % 2;
         std::string from = seed % 3 ? rows[0][0].key : "", to = seed % 5 ? rows[1].back().key : "\xff";
         sst_run_config config{1, 2, 10, 8, 2, static_cast<uint16_t>(seed / 2 % 2)};
@@ -184,24 +197,11 @@ void check_compactions() {
     demand(throws(SST_BAD_ARGUMENT, [] { sst::compact({}, {}, false, {}, {}, 1, {0, 0, 0, 1, 1, SST_XXH3}); }), "a denominator of 0");
 }
 
-/* Merges of four tables by either hash function. The last one has the entries of the first with other values. */
+/* Merges of several tables. */
 void check_merges() {
     for (unsigned seed = 0; seed < 60; seed++) {
-        std::vector<std::vector<row>> rows;
-        std::vector<std::vector<uint8_t>> files;
-        std::vector<sst::table> tables;
-        for (unsigned n = 0; n < 4; n++) {
-            uint16_t hash = (seed + n) % 2;
-            rows.push_back(rows_of(seed * 3 + n % 3, 1 + seed * 7));
-            if (n == 3)
-                for (row &r : rows.back()) r.type = SST_VALUE, r.value = "w";
-            files.push_back(file_of(rows.back(), 100, {n, 2, 10, 4, 1, hash}));
-            sst::bytes lent(std::span<const uint8_t>(files.back()));
-            tables.push_back(sst::table::check(lent, static_cast<sst_hash>(hash)));
-        }
-        std::mt19937 random(seed);
-        std::vector<uint64_t> snapshots;
-        for (unsigned n = random() % 5; n > 0; n--) snapshots.push_back(random() % 55);
+        const several several(seed);
+        const auto &[rows, files, tables, snapshots] = several;
         std::optional<uint64_t> below;
         if (seed % 2) below = 25;
         std::string from = seed % 3 ? rows[0][0].key : "", to = seed % 5 ? rows[1].back().key : "\xff";
