@@ -1,5 +1,5 @@
 -- Reads of many keys of a table, each block read once.
-use Rattle.std.specs.Prelude.{◌≡◌, ℕ, ◌+◌, ◌≤◌, ◌==◌, nat_lt, if◌then◌else◌, List, [], ◌∷◌, map, slice_get, Option, Some, None, IfSome, Result, Ok, Err, IfOk, Bool, true, false}
+use Rattle.std.specs.Prelude.{◌≡◌, ℕ, ◌+◌, ◌≤◌, ◌==◌, if◌then◌else◌, List, [], ◌∷◌, map, slice_get, Option, Some, None, IfSome, Result, Ok, Err, IfOk, Bool, true, false}
 use Rattle.std.specs.Option.{option_map}
 use Rattle.sst_base.specs.Entry.{Entry}
 use Rattle.sst_block_core.specs.DataBlock.{DataBlockParts}

@@ -108,10 +108,6 @@ pub of_run : (p : RunPlace) (o : Option (List ℕ)) (P : List ℕ → Type 0) �
 of_run p None P is = subst (λ r. IfSome r P) (sym (no_run p)) tt
 of_run p (Some all) P is = subst (λ r. IfSome r P) (sym (run_at p all)) is
 
-pub of_source : (p : RunPlace) (o : Option (List ℕ)) (P : List ℕ → Type 0) → IfSome (bytes_at p o) P → IfSome o (λ all. P (run_in p all))
-of_source p None P is = tt
-of_source p (Some all) P is = subst (λ r. IfSome r P) (run_at p all) is
-
 -- what is read of a frame, by any function of its bytes
 pub refused_by : {X : Type 0} (k : List ℕ → Result X Error) (p : RunPlace) (o : Option (List ℕ)) (h : HandleParts) (P R : Type 0) → IsPlaced p o → frame_of p h ≡ None → IfSome (bytes_at p o) (λ all. FailsAs P R (range_at all h >>= k) BadHandle)
 refused_by k p o h P R inside is = of_run p o _ (known o inside) where

@@ -134,9 +134,3 @@ module _ (c : Hashes) (needle : List ℕ) (seqno : ℕ) (p : RunPlace) where
     known : (o : Option (List ℕ)) → IfSome o (λ all. CountsBetween s t (0, 0) (digits (heads_in all f), entries_in all f)) → IfSome o (λ all. (g : Option Handle) → Some h ≡ option_map range_of g → CountsBetween s t (0, 0) (digits (heads_at (run_in p all) g), entries_at (run_in p all) g))
     known None given = tt
     known (Some all) given = by_handle all given
-
-  pub not_counted_at : (o : Option (List ℕ)) (h : HandleParts) (s : Counted) → IfSome (bytes_at p o) (λ all. (g : Option Handle) → Some h ≡ option_map range_of g → CountsBetween s s (0, 0) (digits (heads_at all g), entries_at all g))
-  not_counted_at o h s = of_any (bytes_at p o) where
-    of_any : (o : Option (List ℕ)) → IfSome o (λ all. (g : Option Handle) → Some h ≡ option_map range_of g → CountsBetween s s (0, 0) (digits (heads_at all g), entries_at all g))
-    of_any None = tt
-    of_any (Some all) = λ g e. record { heads_least = omega arith; heads_most = omega arith; entries_least = omega arith; entries_most = omega arith }

@@ -1,13 +1,15 @@
 //! Sound runs over borrowed bytes, read without checks and without memory.
-ghost use Rattle.std.specs.Prelude.{◌≡◌, ◌≢◌, ℕ, ◌<◌, List, length, Ok, Err, IfOk, IfErr};
+ghost use Rattle.std.specs.Prelude.{◌≡◌, ◌≢◌, ◌↔◌, ℕ, ◌<◌, List, length, Ok, Err, IfOk, IfErr};
 ghost use Rattle.std.specs.Prelude.{MatchResult, false};
 ghost use Rattle.sst_base.specs.Counted.{CountsExactly};
 ghost use Rattle.sst_base.specs.Entry.{Entry, IsEntry};
 ghost use Rattle.sst_block_core.specs.Entries.{entries};
+ghost use Rattle.sst_block_core.specs.Handles.{handles};
 ghost use Rattle.sst_block_core.specs.Payload.{IsBlock};
 ghost use Rattle.sst_block_core.specs.Window.{first_match};
 ghost use Rattle.sst_block_core.specs.DataBlock.{data_ref_of};
 ghost use Rattle.sstable_blocks.specs.Blocks.{joined};
+ghost use Rattle.sstable_blocks.specs.Lookup.{place_for};
 ghost use Rattle.sstable_blocks.specs.Opened.{IsDenied, IsFoundIn, IsFrameRange, found_entry};
 ghost use Rattle.sstable_blocks.specs.Opened.{index_in};
 ghost use Rattle.sstable_blocks.specs.Opened.{payload_in, range_of};
@@ -148,10 +150,47 @@ impl<'a, H: BlockHash> RunRef<'a, H> {
             → CountsExactly steps.old steps.new 0 0 }
     {
         sound_opens();
-        if !self.filter.allows(H::hash64(needle)) {
+        if !self.may_have(needle) {
             return None;
         }
         item_by_index::<H>(self.bytes, &self.handles, &self.index, needle, seqno, steps)
+    }
+
+    /// Returns whether the run may have an entry of a key, by its filter: where it may not, it has
+    /// none. It may where there is no filter.
+    #[inline(always)]
+    pub fn may_have(&self, needle: &[u8]) -> bool
+        ensures { (result ≡ false)
+            ↔ IsDenied self.now.bytes self.now.handles.filter (H.hash64 needle.now) }
+    {
+        self.filter.allows(H::hash64(needle))
+    }
+
+    /// Returns what [`RunRef::locate`] returns, where the caller knows at which handle a seek in
+    /// the index stops: `index` handles are before it. Neither the filter is asked, nor the index
+    /// searched. Takes no memory.
+    pub fn locate_at(
+        &self,
+        index: usize,
+        needle: &[u8],
+        seqno: SeqNo,
+        steps: &mut Steps,
+    ) -> Option<(BlockHandle, DataBlockParsedItem)>
+        requires { index ≡ place_for handles needle.now seqno
+            (index_in self.now.bytes self.now.handles.index) }
+        ensures found { ForSound (hashes H.hash64 H.hash128) self.now.bytes self.now.handles
+            (λ blocks. found_entry self.now.bytes result
+            ≡ first_match entries needle.now seqno (joined blocks)) }
+        ensures place { IsFoundIn self.now.bytes result }
+        ensures counts { CountsRead self.now.bytes self.now.handles needle.now seqno steps.old
+            steps.new }
+    {
+        sound_opens();
+        if index >= self.index.len() {
+            return None;
+        }
+        let frame = self.frame_at(index, steps);
+        item_in::<H>(self.bytes, frame, needle, seqno, steps)
     }
 
     /// Finds the first entry with this key whose sequence number is strictly below `seqno`. Takes
