@@ -228,6 +228,7 @@ class table {
 
   private:
     friend class merge;
+    friend class open_table;
     table(bytes file, sst_hash hash) : hash_(hash) {
         if (uint32_t status = sst_footer_read(file.lent(), file.size(), &handles_)) throw error(status);
         run_ = bytes(file.first(file.size() - 24));
@@ -274,6 +275,39 @@ class table {
     sst_run_handles handles_{};
     sst_hash hash_;
     sst_summary summary_{};
+};
+
+/* A table that was opened for many finds. It keeps a number for each block, by which a find mostly goes to a block and
+   does not search the index. All else is as of the table: opened->scan(). */
+class open_table {
+  public:
+    explicit open_table(const table &over) : table_(over) {
+        fill();
+        numbers_.resize(std::max<size_t>(open_.blocks, 1));
+        fill();
+    }
+
+    /* The first entry of a key strictly below a sequence number, a tombstone too, as table::get. */
+    std::optional<entry> get(bytes key, uint64_t below = UINT64_MAX) const {
+        sst_place at;
+        uint32_t status = sst_run_find(table_.run_.data(), table_.run_.size(), &open_, numbers_.data(), numbers_.size(),
+                                       key.lent(), key.size(), below, &at);
+        return status == SST_OK ? std::optional(table_.entry_at(at)) : std::nullopt;
+    }
+
+    const table *operator->() const { return &table_; }
+
+  private:
+    /* Opens the table, with numbers for its blocks where there is room. */
+    void fill() {
+        if (uint32_t status = sst_run_open(table_.run_.data(), table_.run_.size(), &table_.handles_, table_.hash_,
+                                           numbers_.data(), numbers_.size(), &open_))
+            throw error(status);
+    }
+
+    table table_;
+    sst_open_run open_{};
+    std::vector<uint64_t> numbers_ = std::vector<uint64_t>(1);
 };
 
 /* The entries of several tables in one order: by key, then by sequence number falling, and of equal ones those of the

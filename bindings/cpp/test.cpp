@@ -119,15 +119,19 @@ void check_scan(const sst::table &table, const std::vector<row> &rows, const std
 void check_table(const sst::table &table, const std::vector<row> &rows) {
     demand(std::ranges::equal(table, rows, is), "a walk gives all entries");
     demand(std::equal(table.rbegin(), table.rend(), rows.rbegin(), rows.rend(), is), "a walk back gives all entries");
+    sst::open_table opened(table);
     for (size_t i = 0; i < rows.size(); i += 5) {
         auto first = std::ranges::find_if(rows, [&](const row &r) { return r.key >= rows[i].key; });
         demand(std::equal(table.lower_bound(rows[i].key), table.end(), first, rows.end(), is), "entries from a key on");
         auto newest = std::ranges::find_if(rows, [&](const row &r) { return r.key == rows[i].key && r.seqno < 25; });
         auto found = table.get(rows[i].key, 25);
         demand(newest == rows.end() ? !found : found && is(*found, *newest), "the newest version below a number");
+        found = opened.get(rows[i].key, 25);
+        demand(newest == rows.end() ? !found : found && is(*found, *newest), "the same in a table that was opened");
         check_scan(table, rows, rows[i].key, rows[i * 7 % rows.size()].key, i % 2 ? std::optional<uint64_t>(25) : std::nullopt, 1 + i % 9);
     }
-    demand(table.lower_bound("zz") == table.end() && !table.get("zz"), "nothing above the last key");
+    demand(table.lower_bound("zz") == table.end() && !table.get("zz") && !opened.get("zz"), "nothing above the last key");
+    demand(std::equal(opened->begin(), opened->end(), rows.begin(), rows.end(), is), "a table that was opened is the table");
     demand(std::equal(table.lower_bound(""), table.end(), rows.begin(), rows.end(), is), "all from the empty key on");
     check_scan(table, rows, "", "\xff", {}, 64);
 }

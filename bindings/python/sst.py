@@ -100,6 +100,11 @@ class _Handles(ctypes.Structure):
                 ("index_size", ctypes.c_uint32), ("filter_size", ctypes.c_uint32)]
 
 
+class _OpenRun(ctypes.Structure):
+    _fields_ = [("handles", _Handles), ("blocks", ctypes.c_size_t), ("fronts", ctypes.c_size_t),
+                ("prefix_offset", ctypes.c_size_t), ("prefix_len", ctypes.c_size_t), ("hash", ctypes.c_uint32)]
+
+
 class _Run(ctypes.Structure):
     _fields_ = [("bytes", ctypes.c_void_p), ("len", ctypes.c_size_t), ("handles", _Handles)]
 
@@ -142,8 +147,10 @@ def _load():
             ("sst_footer_write", ctypes.c_uint32, [handles, address, size, count]),
             ("sst_run_check_at", ctypes.c_uint32,
              [address, size, handles, ctypes.c_uint32, ctypes.POINTER(_Summary), ctypes.POINTER(_CheckEnd)]),
-            ("sst_run_get", ctypes.c_uint32,
-             [address, size, handles, ctypes.c_uint32, ctypes.c_char_p, size, ctypes.c_uint64, place]),
+            ("sst_run_open", ctypes.c_uint32,
+             [address, size, handles, ctypes.c_uint32, address, size, ctypes.POINTER(_OpenRun)]),
+            ("sst_run_find", ctypes.c_uint32, [address, size, ctypes.POINTER(_OpenRun), address, size, ctypes.c_char_p,
+                                               size, ctypes.c_uint64, place]),
             ("sst_run_range", None, [address, size, handles, ctypes.c_uint8, ctypes.c_char_p, size, ctypes.c_uint8,
                                      ctypes.c_char_p, size, ctypes.POINTER(_Window)]),
             ("sst_run_scan", ctypes.c_uint32, [address, size, handles, ctypes.POINTER(_Window), ctypes.c_uint8,
@@ -177,7 +184,8 @@ def _demand(status):
 
 
 class Table:
-    """A table file in memory. To make one checks all its bytes, so reads need no checks."""
+    """A table file in memory. To make one checks all its bytes, so reads need no checks. It keeps 8 bytes for each
+    block, by which `get` goes to a block."""
 
     def __init__(self, data, hash=Hash.XXH3):
         """Checks the bytes of a table file by a hash function. Raises Error with what the check met first, and where
@@ -193,6 +201,8 @@ class Table:
         if status := _LIB.sst_run_check_at(*self._run, self._hash, ctypes.byref(found), ctypes.byref(end)):
             raise Error(status, None if status == _MEMORY else CheckEnd(end.part, end.block, end.offset, end.size))
         self.summary = Summary(found.blocks, found.entries, found.least_seqno, found.greatest_seqno)
+        self._open, self._numbers = _OpenRun(), (ctypes.c_uint64 * found.blocks)()
+        _demand(_LIB.sst_run_open(*self._run, self._hash, self._numbers, found.blocks, ctypes.byref(self._open)))
 
     @classmethod
     def open(cls, path, hash=Hash.XXH3):
@@ -227,7 +237,8 @@ class Table:
     def get(self, key, below=MAX_SEQNO):
         """The first entry of a key strictly below a sequence number, a tombstone too, or None."""
         at = _Place()
-        status = _LIB.sst_run_get(*self._run, self._hash, key, len(key), below, ctypes.byref(at))
+        status = _LIB.sst_run_find(*self._run[:2], ctypes.byref(self._open), self._numbers, len(self._numbers), key,
+                                   len(key), below, ctypes.byref(at))
         if status == _NOT_FOUND:
             return None
         _demand(status)

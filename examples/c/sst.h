@@ -294,6 +294,34 @@ uint32_t sst_run_check_at(const uint8_t *run, size_t len, const struct sst_run_h
 uint32_t sst_run_get(const uint8_t *run, size_t len, const struct sst_run_handles *handles, uint32_t hash,
                      const uint8_t *key, size_t key_len, uint64_t below_seqno, struct sst_place *place);
 
+/* A run that was opened. Its members are for sst_run_find, but for `blocks`, the number of the run's blocks, and
+   `fronts`, how many numbers its table has: one for each block, or none. 64 bytes, as sst_open_run_size says. */
+struct sst_open_run {
+    struct sst_run_handles handles;
+    size_t blocks, fronts;
+    size_t prefix_offset, prefix_len;
+    uint32_t hash;
+};
+
+/* Opens a run, as for sst_run_get, for any number of finds. If cap is not less than its number of blocks, a table is
+   written into `numbers`, of a number for each block, by which a find goes to a block and does not search the
+   index: the first eight bytes of each end key behind the bytes that all of them share. None is made where
+   index_interval is not 1. SST_OK: *run is the run. SST_BAD_ARGUMENT: exactly if hash is none of enum
+   sst_hash; then *run and numbers are left. Numbers behind the first run->blocks are left, and all where
+   there is no room. To learn how many blocks there are, open it with cap 0. Takes no memory. */
+uint32_t sst_run_open(const uint8_t *bytes, size_t len, const struct sst_run_handles *handles, uint32_t hash,
+                      uint64_t *numbers, size_t cap, struct sst_open_run *run);
+
+/* Finds what sst_run_get finds, in a run that sst_run_open opened: bytes are those of the run, *run is what it
+   wrote, and numbers, at least run->fronts, begin with those that it wrote; nothing of this was changed. The codes
+   are those of sst_run_get. Takes no memory, and copies nothing. */
+uint32_t sst_run_find(const uint8_t *bytes, size_t len, const struct sst_open_run *run, const uint64_t *numbers,
+                      size_t count, const uint8_t *key, size_t key_len, uint64_t below_seqno,
+                      struct sst_place *place);
+
+/* The size of struct sst_open_run, for callers without this header. */
+size_t sst_open_run_size(void);
+
 /* What a scan of a run has left: the entries from a first place on up to, not including, an end. A place is
    the index of a block, and the index of an entry in it, or the number of its entries for the block's end.
    All entries of a run of n blocks: from 0, 0 up to n - 1 and the number of entries of that block, which

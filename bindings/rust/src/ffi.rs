@@ -78,6 +78,17 @@ pub struct Run {
 
 #[repr(C)]
 #[derive(Clone, Copy, Default)]
+pub struct OpenRun {
+    pub handles: RunHandles,
+    pub blocks: usize,
+    pub fronts: usize,
+    pub prefix_offset: usize,
+    pub prefix_len: usize,
+    pub hash: u32,
+}
+
+#[repr(C)]
+#[derive(Clone, Copy, Default)]
 pub struct Window {
     pub first_block: usize,
     pub first_index: usize,
@@ -164,6 +175,14 @@ extern "C" {
     pub fn sst_run_get(
         run: *const u8, len: usize, handles: *const RunHandles, hash: u32, key: *const u8, key_len: usize,
         below: u64, place: *mut Place,
+    ) -> c_uint;
+    pub fn sst_run_open(
+        bytes: *const u8, len: usize, handles: *const RunHandles, hash: u32, numbers: *mut u64, cap: usize,
+        run: *mut OpenRun,
+    ) -> c_uint;
+    pub fn sst_run_find(
+        bytes: *const u8, len: usize, run: *const OpenRun, numbers: *const u64, count: usize, key: *const u8,
+        key_len: usize, below: u64, place: *mut Place,
     ) -> c_uint;
     pub fn sst_run_range(
         run: *const u8, len: usize, handles: *const RunHandles, has_from: u8, from: *const u8, from_len: usize,

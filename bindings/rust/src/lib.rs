@@ -35,7 +35,7 @@ mod table;
 pub use block::{Block, BlockHandle, BlockType, DataBlock, IndexBlock, Iter, KeyedBlockHandle};
 pub use block::{StandardBloomFilterReader, build_filter, build_filter_by};
 pub use merge::Merge;
-pub use run::{CheckEnd, Range, Run, RunHandles, Summary};
+pub use run::{CheckEnd, OpenRun, Range, Run, RunHandles, Summary};
 pub use table::{Config, Table, Writer, compact, write_table};
 
 use std::borrow::Cow;

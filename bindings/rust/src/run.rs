@@ -171,6 +171,15 @@ impl<'a> Run<'a> {
         (status != ffi::NOT_FOUND).then(|| self.entry(&at))
     }
 
+    /// Opens the run for many finds. Takes 8 bytes for each block.
+    pub fn open(&self) -> OpenRun<'a> {
+        let mut opened = OpenRun { run: *self, open: ffi::OpenRun::default(), numbers: Vec::new() };
+        opened.fill();
+        opened.numbers.resize(opened.open.blocks, 0);
+        opened.fill();
+        opened
+    }
+
     /// Returns an iterator over all entries, from both ends.
     pub fn iter(&self) -> Range<'a> {
         self.range::<[u8], _>(..)
@@ -218,6 +227,60 @@ impl<'a> Run<'a> {
 impl<'a> AsRef<Run<'a>> for Run<'a> {
     fn as_ref(&self) -> &Run<'a> {
         self
+    }
+}
+
+/// A run that was opened for many finds, which [`Run::open`] does once. It keeps a number for each block, by which a
+/// find mostly goes to a block and does not search the index. All else is as of the [`Run`].
+///
+/// ```
+/// # use sst::{Config, Entry, Table, ValueType, write_table};
+/// # fn main() -> sst::Result<()> {
+/// let file = write_table(&[Entry::new(b"ann", 2, ValueType::Value, b"x")], &Config::default())?;
+/// let table = Table::check(&file)?;
+/// let opened = table.open();
+/// assert_eq!(opened.get(b"ann", u64::MAX), table.get(b"ann", u64::MAX));
+/// assert_eq!(opened.iter().count(), 1);
+/// # Ok(())
+/// # }
+/// ```
+#[derive(Clone)]
+pub struct OpenRun<'a> {
+    run: Run<'a>,
+    open: ffi::OpenRun,
+    numbers: Vec<u64>,
+}
+
+impl<'a> OpenRun<'a> {
+    // Opens the run, with its table where there is a number for each block.
+    fn fill(&mut self) {
+        let (run, numbers) = (&self.run, &mut self.numbers);
+        unsafe {
+            ffi::sst_run_open(
+                run.bytes.as_ptr(), run.bytes.len(), &run.handles, run.hash.number(), numbers.as_mut_ptr(),
+                numbers.len(), &mut self.open,
+            )
+        };
+    }
+
+    /// Returns the first entry of a key strictly below a sequence number, a tombstone too, as [`Run::get`] does.
+    pub fn get(&self, key: &[u8], seqno: SeqNo) -> Option<Entry<'a>> {
+        let (run, mut at) = (&self.run, ffi::Place::default());
+        let status = unsafe {
+            ffi::sst_run_find(
+                run.bytes.as_ptr(), run.bytes.len(), &self.open, self.numbers.as_ptr(), self.numbers.len(),
+                key.as_ptr(), key.len(), seqno, &mut at,
+            )
+        };
+        (status != ffi::NOT_FOUND).then(|| run.entry(&at))
+    }
+}
+
+impl<'a> std::ops::Deref for OpenRun<'a> {
+    type Target = Run<'a>;
+
+    fn deref(&self) -> &Run<'a> {
+        &self.run
     }
 }
 

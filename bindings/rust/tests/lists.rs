@@ -166,10 +166,12 @@ fn tables_are_their_lists() {
         assert_eq!(table.verify().unwrap().entries, list.len() as u64);
         assert!(unsafe { Table::trusted_by(&file, hash) }.unwrap().iter().eq(list.iter().copied()));
         assert!(table.iter().rev().eq(list.iter().rev().copied()));
+        let opened = table.open();
         for (i, low) in rows.iter().enumerate().step_by(5) {
             let high = &rows[(i * 7 + 3) % rows.len()].0;
             let first = list.iter().find(|e| e.key() == low.0.as_slice() && e.seqno < 25);
             assert_eq!(table.get(&low.0, 25), first.copied());
+            assert_eq!(opened.get(&low.0, 25), first.copied());
             for from in [Bound::Included(&low.0), Bound::Excluded(&low.0), Bound::Unbounded] {
                 for to in [Bound::Included(high), Bound::Excluded(high), Bound::Unbounded] {
                     let within = list.iter().copied().filter(|e| {

@@ -8,6 +8,7 @@ pub mod Listed
 pub mod Passing
 pub mod RunBlockLists
 pub mod KeyPlaces
+pub mod Fronts
 pub mod Reversed
 pub mod OneBlock
 pub mod RunEnds

@@ -8,6 +8,8 @@ pub mod Frames
 pub mod Given
 pub mod Index
 pub mod Runs
+pub mod Fronts
+pub mod OpenRuns
 pub mod RunWrites
 pub mod CheckEnds
 pub mod Listing

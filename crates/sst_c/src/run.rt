@@ -1,6 +1,6 @@
 //! Runs: blocks, their index and their filter in one string of bytes.
 ghost use Rattle.std.specs.Prelude.{◌≡◌, ◌⊎◌, ◌+◌, ◌<◌, ◌^◌, List, IfOk, IfErr, IfSome, IsOkUnless};
-ghost use Rattle.sst_c.specs.Blocks.{IsAnswer, IsFind, IsPartAt, IsPlaceOf};
+ghost use Rattle.sst_c.specs.Blocks.{IsFind, IsPartAt, IsPlaceOf};
 ghost use Rattle.sst_c.specs.Codes.{code_of};
 ghost use Rattle.sst_c.specs.declared.codes.Status.{Status};
 ghost use Rattle.sst_c.specs.declared.codes.Status.TheVariants.{Failed, BadArgument};
@@ -10,7 +10,7 @@ ghost use Rattle.sst_c.specs.Hashing.{IsHashed, hash_given, hashes_of};
 ghost use Rattle.sst_c.specs.Runs.{config_given, handles_given, run_form};
 ghost use Rattle.sst_c.specs.Runs.{AreTold, CanWrite, IsRunCheck, IsRunWrite};
 ghost use Rattle.sstable_blocks.specs.Blocks.{blocks_of, joined};
-ghost use Rattle.sstable_blocks.specs.Opened.{IsFrameRange, payload_in};
+ghost use Rattle.sstable_blocks.specs.Opened.{IsFoundIn, IsFrameRange, found_entry, payload_in};
 ghost use Rattle.sstable_blocks.specs.Prelude.{Entry, entries, first_match, entry_of, hashes};
 ghost use Rattle.sstable_blocks.specs.Prelude.{IsParsedEntry};
 ghost use Rattle.sstable_blocks.specs.Results.{Memory, TooLong};
@@ -224,26 +224,26 @@ fn place_in(bytes: &[u8], handle: &BlockHandle, item: &DataBlockParsedItem) -> S
     )
 }
 
-// Where the first entry of a key below a sequence number is.
-fn find<H: BlockHash>(
+/// Notes where an entry is that was found, if one was.
+pub(crate) fn note(
     bytes: &[u8],
-    handles: &RunHandles,
-    key: &[u8],
-    below: SeqNo,
-) -> Option<SstPlace>
-    requires { IsSoundRun (hashes H.hash64 H.hash128) bytes.now handles.now }
-    ensures { ForSound (hashes H.hash64 H.hash128) bytes.now handles.now (λ blocks.
-        IsAnswer bytes.now result (first_match entries key.now below (joined blocks))) }
+    found: &Option<(BlockHandle, DataBlockParsedItem)>,
+    place: &mut SstPlace,
+) -> Status
+    requires { IsFoundIn bytes.now found.now }
+    ensures { IsFind bytes.now (found_entry bytes.now found.now) place.old place.new result }
 {
-    let run = RunRef::<H>::new(bytes, handles);
-    match run.locate(key, below, &mut Steps::new()) {
-        Some((handle, item)) => Some(place_in(bytes, &handle, &item)),
-        None => None,
+    match found {
+        Some(found) => {
+            *place = place_in(bytes, &found.0, &found.1);
+            Status::Done
+        }
+        None => Status::NotFound,
     }
 }
 
 // Notes where the first entry of a key below a sequence number is.
-fn note_found<H: BlockHash>(
+fn find<H: BlockHash>(
     bytes: &[u8],
     handles: &RunHandles,
     key: &[u8],
@@ -254,13 +254,8 @@ fn note_found<H: BlockHash>(
     ensures { ForSound (hashes H.hash64 H.hash128) bytes.now handles.now (λ blocks. IsFind bytes.now
         (first_match entries key.now below (joined blocks)) place.old place.new result) }
 {
-    match find::<H>(bytes, handles, key, below) {
-        Some(found) => {
-            *place = found;
-            Status::Done
-        }
-        None => Status::NotFound,
-    }
+    let run = RunRef::<H>::new(bytes, handles);
+    note(bytes, &run.locate(key, below, &mut Steps::new()), place)
 }
 
 // The same by the hash function that is given.
@@ -278,8 +273,8 @@ fn find_by(
         (first_match entries key.now below (joined blocks)) place.old place.new result)) }
 {
     match hash {
-        Some(Hash::Xxh3) => note_found::<Xxh3>(bytes, handles, key, below, place),
-        Some(Hash::Poly31) => note_found::<Poly31>(bytes, handles, key, below, place),
+        Some(Hash::Xxh3) => find::<Xxh3>(bytes, handles, key, below, place),
+        Some(Hash::Poly31) => find::<Poly31>(bytes, handles, key, below, place),
         None => Status::BadArgument,
     }
 }

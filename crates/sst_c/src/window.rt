@@ -41,7 +41,8 @@ pub(crate) struct RunBlock<'a> {
 #[tactic(auto, using(sstable_blocks::specs::RunLaws::payload_fits))]
 pub(crate) fn index_of<'a>(bytes: &'a [u8], handles: &RunHandles) -> IndexBlockRef<'a>
     requires { IsSomeRun bytes.now handles.now }
-    ensures { result.items ≡ index_in bytes.now handles.now.index }
+    ensures items { result.items ≡ index_in bytes.now handles.now.index }
+    ensures payload { result.payload ≡ payload_in bytes.now handles.now.index }
 {
     sound_opens();
     // A size has 32 bits.

@@ -9,6 +9,6 @@ pub returns-clause-all : goal.returns-clause-all
 returns-clause-all c =
     let bytes = c.args.bytes.now in
     let h = c.args.handles.now in
-    let count = ap (λ (xs : List Handle). length xs) c.index_of.ensures in
+    let count = ap (λ (xs : List Handle). length xs) c.index_of.ensures.items in
     let all = all_before (blocks_in bytes h) (c.len-block.result - 1) c.block_at.result.block.items c.block_at.ensures.items (omega (arith, count, c.len-block.ensures.count, c.len-block.ensures.some, blocks_count bytes h)) in
     omega (arith, all, c.len.ensures.count)

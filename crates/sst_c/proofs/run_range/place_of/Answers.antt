@@ -19,11 +19,11 @@ returns-then-block-len-clause-before c =
     let key = c.args.key.now in
     let blocks = blocks_in bytes h in
     let sound = c.requires in
-    let count = ap (λ (xs : List Handle). length xs) c.index_of-index.ensures in
+    let count = ap (λ (xs : List Handle). length xs) c.index_of-index.ensures.items in
     let all = run_counted sound.0 sound.1.0 bytes h key sound.1.1 (c.sound_opens.ensures sound.0 sound.1.0 bytes h sound.1.1) (λ r p items short is. (c.index_block_is_read.ensures r p items short is).1) in
     let pos : c.position-block.result ≡ counted handles.key (is_before (Included key)) (index_in bytes h.index) =
     before_included c.index_of-index.result.items c.position-block.result c.below.result.needle.now key c.below.result.from (Included key) c.position-block.ensures.value c.below.ensures.needle c.below.ensures.from refl
-    ∙ ap (λ (xs : List Handle). counted handles.key (is_before (Included key)) xs) c.index_of-index.ensures in
+    ∙ ap (λ (xs : List Handle). counted handles.key (is_before (Included key)) xs) c.index_of-index.ensures.items in
     let there = subst (λ n. IsCounted (is_before (Included key)) blocks n) (sym pos) all in
     elim there [
       | inl whole ↦ c.end_of.ensures.all ∙ sym whole.1
@@ -31,7 +31,7 @@ returns-then-block-len-clause-before c =
     ]
 
 pub block_at-requires-clause-inside : goal.block_at-requires-clause-inside
-block_at-requires-clause-inside c = omega (arith, ap (λ (xs : List Handle). length xs) c.index_of-index.ensures, c.len.ensures.count, c.if-block-len.false)
+block_at-requires-clause-inside c = omega (arith, ap (λ (xs : List Handle). length xs) c.index_of-index.ensures.items, c.len.ensures.count, c.if-block-len.false)
 
 pub returns-clause-place : goal.returns-clause-place
 returns-clause-place c =
@@ -49,11 +49,11 @@ returns-clause-before c =
     let key = c.args.key.now in
     let blocks = blocks_in bytes h in
     let sound = c.requires in
-    let count = ap (λ (xs : List Handle). length xs) c.index_of-index.ensures in
+    let count = ap (λ (xs : List Handle). length xs) c.index_of-index.ensures.items in
     let all = run_counted sound.0 sound.1.0 bytes h key sound.1.1 (c.sound_opens.ensures sound.0 sound.1.0 bytes h sound.1.1) (λ r p items short is. (c.index_block_is_read.ensures r p items short is).1) in
     let pos : c.position-block.result ≡ counted handles.key (is_before (Included key)) (index_in bytes h.index) =
     before_included c.index_of-index.result.items c.position-block.result c.below.result.needle.now key c.below.result.from (Included key) c.position-block.ensures.value c.below.ensures.needle c.below.ensures.from refl
-    ∙ ap (λ (xs : List Handle). counted handles.key (is_before (Included key)) xs) c.index_of-index.ensures in
+    ∙ ap (λ (xs : List Handle). counted handles.key (is_before (Included key)) xs) c.index_of-index.ensures.items in
     let there = subst (λ n. IsCounted (is_before (Included key)) blocks n) (sym pos) all in
     elim there [
       | inl whole ↦ absurd (omega (arith, whole.0, blocks_count bytes h, count, c.len.ensures.count, c.if-block-len.false))

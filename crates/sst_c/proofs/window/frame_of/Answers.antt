@@ -8,14 +8,14 @@ pub returns-clause-range : goal.returns-clause-range
 returns-clause-range c =
     let sound = c.requires.sound in
     let o = c.sound_opens.ensures sound.0 sound.1.0 c.args.bytes.now c.args.handles.now sound.1.1 in
-    let here = block_here sound.0.hash64 sound.1.0 c.args.bytes.now c.args.handles.now c.index_of.result.items c.args.block c.handle_at-frame.result o c.index_of.ensures c.handle_at-frame.ensures.range in
+    let here = block_here sound.0.hash64 sound.1.0 c.args.bytes.now c.args.handles.now c.index_of.result.items c.args.block c.handle_at-frame.result o c.index_of.ensures.items c.handle_at-frame.ensures.range in
     here.2.range
 
 pub returns-clause-is_block : goal.returns-clause-is_block
 returns-clause-is_block c =
     let sound = c.requires.sound in
     let o = c.sound_opens.ensures sound.0 sound.1.0 c.args.bytes.now c.args.handles.now sound.1.1 in
-    let here = block_here sound.0.hash64 sound.1.0 c.args.bytes.now c.args.handles.now c.index_of.result.items c.args.block c.handle_at-frame.result o c.index_of.ensures c.handle_at-frame.ensures.range in
+    let here = block_here sound.0.hash64 sound.1.0 c.args.bytes.now c.args.handles.now c.index_of.result.items c.args.block c.handle_at-frame.result o c.index_of.ensures.items c.handle_at-frame.ensures.range in
     let h = c.handle_at-frame.result in
     let size : h.size < 2 ^ 32 = search (arith, rules) in (
       sound.0.hash64,
@@ -26,4 +26,4 @@ returns-clause-is_block c =
     )
 
 pub returns-clause-items : goal.returns-clause-items
-returns-clause-items c = block_of_handle c.args.bytes.now c.args.handles.now c.index_of.result.items c.args.block c.handle_at-frame.result c.index_of.ensures c.handle_at-frame.ensures.range
+returns-clause-items c = block_of_handle c.args.bytes.now c.args.handles.now c.index_of.result.items c.args.block c.handle_at-frame.result c.index_of.ensures.items c.handle_at-frame.ensures.range
