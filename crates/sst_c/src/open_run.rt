@@ -1,6 +1,6 @@
 //! Runs that are opened once: a table of numbers in memory of the caller decides most of a search in
 //! their index.
-ghost use Rattle.std.specs.Prelude.{◌≡◌, ◌≤◌, ℕ, length, IfSome};
+ghost use Rattle.std.specs.Prelude.{◌≡◌, ◌<◌, ◌≤◌, ℕ, length, IfSome};
 ghost use Rattle.sst_c.specs.Blocks.{IsFind};
 ghost use Rattle.sst_c.specs.Codes.{code_of};
 ghost use Rattle.sst_c.specs.Hashing.{IsHashed, hash_given, hashes_of};
@@ -155,8 +155,8 @@ pub extern "C" fn sst_run_open(
     }
 }
 
-// Where a search in the index for a key stops, whatever the sequence number, if the table of the
-// run says it.
+// Where a search in the index for a key stops, whatever the sequence number, if the table of a run
+// that has one says it.
 fn place_of(
     bytes: &[u8],
     frames: &RunHandles,
@@ -164,15 +164,13 @@ fn place_of(
     numbers: &[u64],
     key: &[u8],
 ) -> Option<usize>
+    requires some { 0 < run.now.fronts }
     requires frames { frames.now ≡ handles_given run.now.handles }
     requires sound { IsSomeRun bytes.now frames.now }
     requires table { HasTable bytes.now run.now numbers.now }
     ensures { (seqno : ℕ) → IfSome result
         (λ n. n ≡ place_for handles key.now seqno (index_in bytes.now frames.now.index)) }
 {
-    if run.fronts == 0 {
-        return None;
-    }
     let start = run.prefix_offset;
     let index = index_of(bytes, frames);
     let prefix = &index.as_slice()[start..start + run.prefix_len];
@@ -199,13 +197,15 @@ fn locate<H: BlockHash>(
     sound_opens();
     let handles = run_handles(&run.handles);
     let sound = RunRef::<H>::new(bytes, &handles);
-    if !sound.may_have(key) {
-        return None;
+    if run.fronts > 0 {
+        if !sound.may_have(key) {
+            return None;
+        }
+        if let Some(place) = place_of(bytes, &handles, run, numbers, key) {
+            return sound.locate_at(place, key, below, &mut Steps::new());
+        }
     }
-    match place_of(bytes, &handles, run, numbers, key) {
-        Some(place) => sound.locate_at(place, key, below, &mut Steps::new()),
-        None => sound.locate(key, below, &mut Steps::new()),
-    }
+    sound.locate(key, below, &mut Steps::new())
 }
 
 // Notes where that entry is.
