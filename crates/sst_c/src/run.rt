@@ -24,6 +24,7 @@ use crate::hash::Hash;
 use crate::output::write_bytes;
 use sstable_blocks::run::RunRef;
 use sstable_blocks::run::laws::sound_opens;
+use sstable_blocks::run::read::payload_at;
 use sstable_blocks::table::block::header::HEADER_LEN;
 use sstable_blocks::table::data_block::DataBlockParsedItem;
 use sstable_blocks::{
@@ -189,17 +190,6 @@ pub extern "C" fn sst_run_check(
     .code()
 }
 
-/// The payload of a frame.
-#[tactic(auto, using(crate::proofs::Lists::Places::frame_payload))]
-pub(crate) fn payload_of<'a>(bytes: &'a [u8], handle: &BlockHandle) -> &'a [u8]
-    requires { IsFrameRange bytes.now handle.now }
-    ensures { result.now ≡ payload_in bytes.now handle.now }
-{
-    let size = handle.size();
-    let start = *handle.offset() as usize;
-    &bytes[start + HEADER_LEN..start + size as usize]
-}
-
 /// Where the payload of a frame begins.
 pub(crate) fn start_of(bytes: &[u8], handle: &BlockHandle) -> usize
     requires { IsFrameRange bytes.now handle.now }
@@ -219,7 +209,7 @@ fn place_in(bytes: &[u8], handle: &BlockHandle, item: &DataBlockParsedItem) -> S
     place_at(
         bytes,
         start_of(bytes, handle),
-        payload_of(bytes, handle),
+        payload_at(bytes, handle),
         item,
     )
 }

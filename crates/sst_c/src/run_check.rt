@@ -15,10 +15,11 @@ ghost use Rattle.sstable_blocks.specs.Sources.{filter_frames};
 
 use crate::codes::Status;
 use crate::hash::Hash;
-use crate::run::{SstRunHandles, SstSummary, payload_of, run_handles, summary_told};
+use crate::run::{SstRunHandles, SstSummary, run_handles, summary_told};
 use sstable_blocks::ghost_state::Count;
 use sstable_blocks::laws::index_check_accepts_encodings;
 use sstable_blocks::run::check;
+use sstable_blocks::run::read::payload_at;
 use sstable_blocks::table::index_block::IndexBlockRef;
 use sstable_blocks::{
     BlockHandle, BlockHash, BlockType, Error, FrameSource, Poly31, Result, RunHandles, Slice,
@@ -133,7 +134,7 @@ fn handle_at(bytes: &[u8], handles: &RunHandles, block: usize) -> BlockHandle
     index_check_accepts_encodings();
     // A size has 32 bits, and each cell is a byte.
     let (_size, _len) = (handles.index.size(), bytes.len());
-    let index = IndexBlockRef::new(payload_of(bytes, &handles.index));
+    let index = IndexBlockRef::new(payload_at(bytes, &handles.index));
     index.handle_at(block, &mut Steps::new())
 }
 

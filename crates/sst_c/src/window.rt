@@ -8,8 +8,9 @@ ghost use Rattle.sstable_blocks.specs.Opened.{IsFrameRange, index_in, payload_in
 ghost use Rattle.sstable_blocks.specs.Prelude.{data_ref_of, entries, items_in};
 
 use crate::block_view::BlockView;
-use crate::run::{payload_of, start_of};
+use crate::run::start_of;
 use sstable_blocks::run::laws::sound_opens;
+use sstable_blocks::run::read::payload_at;
 use sstable_blocks::table::index_block::IndexBlockRef;
 use sstable_blocks::{BlockHandle, RunHandles, Steps};
 
@@ -47,7 +48,7 @@ pub(crate) fn index_of<'a>(bytes: &'a [u8], handles: &RunHandles) -> IndexBlockR
     sound_opens();
     // A size has 32 bits.
     let _fits = handles.index.size();
-    IndexBlockRef::new(payload_of(bytes, &handles.index))
+    IndexBlockRef::new(payload_at(bytes, &handles.index))
 }
 
 // The frame of the block at an index of a run.
@@ -77,7 +78,7 @@ pub(crate) fn block_at<'a>(bytes: &'a [u8], handles: &RunHandles, block: usize) 
     let frame = frame_of(bytes, handles, block);
     RunBlock {
         start: start_of(bytes, &frame),
-        block: BlockView::new(payload_of(bytes, &frame)),
+        block: BlockView::new(payload_at(bytes, &frame)),
     }
 }
 

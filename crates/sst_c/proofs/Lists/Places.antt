@@ -34,14 +34,6 @@ placed bytes p start f e part at = record {
     behind : (offset len : ℕ) → offset + len ≤ length p → bytes_behind bytes (start + offset) len ≡ bytes_behind p offset len
     behind offset len inside = part_of_part bytes start (length p) offset len inside ∙ ap (λ q. bytes_behind q offset len) part.is
 
--- the payload of a frame, by its range
-pub frame_payload : (bytes : List ℕ) (h : HandleParts) → IsFrameRange bytes h → take (h.offset + h.size - (h.offset + 33)) (drop (h.offset + 33) bytes) ≡ payload_in bytes h
-unfolding payload_in
-frame_payload bytes h range =
-    let header = range.header in
-    let size : h.offset + h.size - (h.offset + 33) ≡ h.size - 33 = omega (arith, header) in
-    ap (λ n. take n (drop (h.offset + 33) bytes)) size
-
 -- it begins after the header
 pub frame_part : (bytes : List ℕ) (h : HandleParts) → IsFrameRange bytes h → IsPartAt bytes (h.offset + 33) (payload_in bytes h)
 unfolding payload_in
