@@ -1,4 +1,4 @@
-// The calls of crates/sst_bench. Bytes go in as an address and a length, and are borrowed for the call.
+// The calls of bench/sst_bench. Bytes go in as an address and a length, and are borrowed for the call.
 #pragma once
 
 #include <cstddef>

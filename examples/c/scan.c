@@ -121,6 +121,21 @@ static void scan_block(void) {
     printf(" %zu\n", count);
 }
 
+/* Lists the entries of a block with keys in a range, of which there are as many as in the run. */
+static void scan_block_range(const uint8_t *block, size_t block_len, const char *from, const char *to) {
+    static struct sst_place places[COUNT];
+    struct sst_window window = {9, 9, 9, 9};
+    size_t indexes[COUNT], due = wanted(from, to, ALL, indexes), count = 0;
+    sst_data_block_range(block, block_len, from != NULL, (const uint8_t *)(from ? from : ""), from ? strlen(from) : 0,
+                         to != NULL, (const uint8_t *)(to ? to : ""), to ? strlen(to) : 0, &window);
+    expect(window.first_block == 0 && window.end_block == 0, "a window of one block");
+    if (sst_data_block_scan(block, block_len, &window, 0, 0, 0, places, COUNT, &count) != SST_OK || count != due) {
+        expect(0, "a range of a block has its entries");
+        return;
+    }
+    for (size_t i = 0; i < count; i++) expect(is_at(block, &places[i], indexes[i]), "a place of a range of a block");
+}
+
 int main(void) {
     if (!make_run()) return 1;
     static const char *const bounds[][2] = {{NULL, NULL},         {"k00006", NULL},     {NULL, "k00006"},
@@ -154,6 +169,11 @@ int main(void) {
     window(SIZE_MAX, 0, SIZE_MAX, 0);
     window(0, SIZE_MAX, 5, 0);
     scan_block();
+    static uint8_t block[16384];
+    size_t block_len = 0;
+    if (sst_data_block_encode(entries, COUNT, 16, 1, 1, SST_POLY31, block, sizeof block, &block_len) != SST_OK) return 1;
+    for (size_t b = 0; b < sizeof bounds / sizeof *bounds; b++, scans++)
+        scan_block_range(block, block_len, bounds[b][0], bounds[b][1]);
     free(run);
     printf("%zu scans, %d failures\n", scans, failures);
     return failures != 0;

@@ -150,6 +150,28 @@ uint32_t sst_index_block_check(const uint8_t *payload, size_t len, size_t *count
 uint32_t sst_index_block_find(const uint8_t *payload, size_t len, const uint8_t *key, size_t key_len,
                               uint64_t below_seqno, struct sst_handle *handle);
 
+/* The index of the handle that sst_index_block_find finds, or the number of handles where it finds none. Takes
+   no memory. */
+size_t sst_index_block_seek(const uint8_t *payload, size_t len, const uint8_t *key, size_t key_len,
+                            uint64_t below_seqno);
+
+/* Where the end key of a handle is in the payload of an index block, and the rest of the handle. The key is the
+   prefix and then the key's own bytes. */
+struct sst_handle_place {
+    uint64_t seqno;
+    size_t prefix_offset, prefix_len;
+    size_t key_offset, key_len;
+    uint64_t offset;
+    uint32_t size;
+};
+
+/* Writes where the handles of an index block from an index on are, in order. SST_OK: the first *count places are
+   written: all handles from there on, or as many as there is room for. The places after them are left.
+   SST_BAD_ARGUMENT: exactly if from is greater than the number of handles; then nothing is written. Takes no
+   memory. A call decodes the handles that it lists, and before them at most those of a restart interval. */
+uint32_t sst_index_block_scan(const uint8_t *payload, size_t len, size_t from, struct sst_handle_place *places,
+                              size_t cap, size_t *count);
+
 /* A byte string that is given, such as a key of a filter. */
 struct sst_bytes {
     const uint8_t *data;
@@ -159,9 +181,16 @@ struct sst_bytes {
 /* Builds a Bloom filter of keys at so many bits for each at the front of out, by a hash function. SST_OK:
    *out_len bytes of out are its payload. SST_NO_ROOM: out_cap is less than *out_len. SST_BAD_ARGUMENT: exactly
    if there is no key, no bit, or more than 34359737920 bits in all, or hash is none of enum sst_hash.
-   SST_MEMORY. But for SST_OK out is left, and but for SST_OK and SST_NO_ROOM *out_len. */
+   SST_MEMORY: the call takes 8 bytes for each key, and the filter is made, and then copied to out. But for SST_OK
+   out is left, and but for SST_OK and SST_NO_ROOM *out_len. */
 uint32_t sst_filter_build(const struct sst_bytes *keys, size_t count, uint32_t bits_per_key, uint32_t hash,
                           uint8_t *out, size_t out_cap, size_t *out_len);
+
+/* Builds of hashes of keys, as sst_run_block_write writes them, the filter that sst_filter_build builds of keys with
+   these hashes, with the same codes. SST_BAD_ARGUMENT: exactly if there is no hash, no bit, or more than 34359737920 bits in
+   all. SST_MEMORY: the filter is made, and then copied to out. */
+uint32_t sst_filter_build_hashes(const uint64_t *hashes, size_t count, uint32_t bits_per_key, uint8_t *out,
+                                 size_t out_cap, size_t *out_len);
 
 /* Asks the filter in any bytes about a key. SST_OK: the key may have been inserted; for each key that
    was, by this hash function, that is the answer. SST_NOT_FOUND: it was not. Else the bytes are no filter, by
@@ -170,6 +199,10 @@ uint32_t sst_filter_build(const struct sst_bytes *keys, size_t count, uint32_t b
    keys. Takes no memory. */
 uint32_t sst_filter_may_contain(const uint8_t *payload, size_t len, uint32_t hash, const uint8_t *key,
                                 size_t key_len);
+
+/* Asks the filter in any bytes about the hash of a key, with the codes of sst_filter_may_contain but
+   SST_BAD_ARGUMENT. Takes no memory. */
+uint32_t sst_filter_may_contain_hash(const uint8_t *payload, size_t len, uint64_t key_hash);
 
 /* Writes the frame of a payload at the front of out: 33 bytes of type, lengths and checksums, and the
    payload. block_type: 0 data, 1 index, 2 filter, 3 anything else. SST_OK: *out_len bytes of out are the
@@ -287,6 +320,25 @@ struct sst_check_end {
 uint32_t sst_run_check_at(const uint8_t *run, size_t len, const struct sst_run_handles *handles, uint32_t hash,
                           struct sst_summary *summary, struct sst_check_end *end);
 
+/* What is told of an entry that was read, beside its value. */
+struct sst_found {
+    uint64_t seqno;
+    size_t value_len; /* 0 for a tombstone */
+    uint8_t value_type;
+};
+
+/* Reads the first entry of a key below a sequence number in any bytes and handles, a tombstone too: the frame of the
+   filter, if there is one, and, unless the filter rules the key out, that of the index and that of the one block
+   that can have the entry. Of each frame range, header, lengths and checksums are compared and the type and the
+   payload checked; nothing is said of other frames. SST_OK: *found is the entry, and the first found->value_len
+   bytes of value are its value. SST_NO_ROOM: *found is the entry, and value_cap is less than found->value_len.
+   SST_NOT_FOUND: there is none. SST_BAD_ARGUMENT: exactly if hash is none of enum sst_hash. Else the first error of
+   SST_INVALID_HEADER to SST_BAD_HANDLE that is met, the frames in this order, or SST_MEMORY: each frame is copied.
+   But for SST_OK value is left, and but for SST_OK and SST_NO_ROOM *found. */
+uint32_t sst_run_fetch(const uint8_t *run, size_t len, const struct sst_run_handles *handles, uint32_t hash,
+                       const uint8_t *key, size_t key_len, uint64_t below_seqno, struct sst_found *found,
+                       uint8_t *value, size_t value_cap);
+
 /* Finds the first entry of a key below a sequence number in a run that sst_run_check accepted or
    sst_run_write wrote with this hash function, a tombstone too. SST_OK: *place is where it is in the run.
    SST_NOT_FOUND: there is none. SST_BAD_ARGUMENT: exactly if hash is none of enum sst_hash. But for SST_OK
@@ -354,9 +406,13 @@ uint32_t sst_run_scan(const uint8_t *run, size_t len, const struct sst_run_handl
                       struct sst_window *window, uint8_t has_below, uint64_t below_seqno, uint8_t reverse,
                       struct sst_place *places, size_t cap, size_t *count);
 
-/* The same of a data block, as of a run that has this one block: both blocks of the window are 0, and the
-   offsets are those in the block. All entries: from 0, 0 up to 0 and the number that sst_data_block_check
-   counts. The bytes are a data block by either hash function. */
+/* The window of the entries of a data block with keys in a range, as sst_run_range says of a run that has this one
+   block: both blocks of the window are 0. The bytes are a data block by either hash function. Takes no memory. */
+void sst_data_block_range(const uint8_t *payload, size_t len, uint8_t has_from, const uint8_t *from, size_t from_len,
+                          uint8_t has_to, const uint8_t *to, size_t to_len, struct sst_window *window);
+
+/* Scans a window of a data block, as sst_run_scan does of a run that has this one block; the offsets are those in
+   the block. The bytes are a data block by either hash function. */
 uint32_t sst_data_block_scan(const uint8_t *payload, size_t len, struct sst_window *window, uint8_t has_below,
                              uint64_t below_seqno, uint8_t reverse, struct sst_place *places, size_t cap,
                              size_t *count);

@@ -57,6 +57,34 @@ static void get(const uint8_t *run, size_t len, const struct sst_run_handles *ha
     printf("\n");
 }
 
+/* Reads a key of bytes that no check has seen, into a buffer of so many bytes. */
+static void fetch(const uint8_t *run, size_t len, const struct sst_run_handles *handles, const char *key, uint64_t below,
+                  size_t cap) {
+    struct sst_found found = {7, 7, 7};
+    uint8_t value[33];
+    memset(value, '.', sizeof value);
+    uint32_t status = sst_run_fetch(run, len, handles, SST_XXH3, (const uint8_t *)key, strlen(key), below, &found, value, cap);
+    printf("fetch %s below %llu into %zu bytes: %s, seqno %llu, type %u, value of %zu, %.33s\n", key,
+           (unsigned long long)below, cap, sst_error_name(status), (unsigned long long)found.seqno, found.value_type,
+           found.value_len, (const char *)value);
+}
+
+/* Reads keys of the run as it is, and with a byte of a block turned that a read of another key does not see. */
+static void fetch_some(uint8_t *run, size_t len, const struct sst_run_handles *handles) {
+    fetch(run, len, handles, (const char *)keys[6], UINT64_MAX, 33);
+    fetch(run, len, handles, (const char *)keys[6], 100, 32);
+    fetch(run, len, handles, (const char *)keys[6], 100, 31);
+    fetch(run, len, handles, (const char *)keys[6], 99, 33);
+    fetch(run, len, handles, (const char *)keys[5], 100, 0);
+    fetch(run, len, handles, "tbl2", UINT64_MAX, 33);
+    run[2000] ^= 0x55;
+    fetch(run, len, handles, (const char *)keys[6], 100, 33);
+    fetch(run, len, handles, (const char *)keys[40], UINT64_MAX, 33);
+    run[2000] ^= 0x55;
+    fetch(run, len - 1, handles, (const char *)keys[6], 100, 33);
+    fetch(run, 0, handles, (const char *)keys[6], 100, 33);
+}
+
 /* Whether a place is that of the entry at an index. */
 static int is_at(const uint8_t *run, const struct sst_place *at, int i) {
     size_t value_len = i == 5 ? 0 : 32;
@@ -192,6 +220,7 @@ int main(void) {
     get(run, len, &handles, (const char *)keys[5], 100);
     get(run, len, &handles, "tbl2", UINT64_MAX);
     get_all(run, len, &handles);
+    fetch_some(run, len, &handles);
     scan(run, len, &handles);
     scan_part(run, len, &handles);
     seek(run, len, &handles);

@@ -80,6 +80,50 @@ static void route(const uint8_t *index, size_t len, const char *key, uint64_t be
            (unsigned long long)at.offset, at.size);
 }
 
+/* Prints the handles of an index block from an index on, one in each call. */
+static void print_handles(const uint8_t *index, size_t len, size_t from) {
+    struct sst_handle_place at;
+    size_t count = 1;
+    uint32_t status = SST_OK;
+    printf("handles from %zu on:", from);
+    while (count > 0 && (status = sst_index_block_scan(index, len, from, &at, 1, &count)) == SST_OK && count > 0) {
+        printf(" %.*s%.*s %llu at %llu, %u;", (int)at.prefix_len, (const char *)index + at.prefix_offset,
+               (int)at.key_len, (const char *)index + at.key_offset, (unsigned long long)at.seqno,
+               (unsigned long long)at.offset, at.size);
+        from++;
+    }
+    printf(" %s\n", sst_error_name(status));
+}
+
+static void print_seek(const uint8_t *index, size_t len, const char *key, uint64_t below) {
+    printf(" %s %zu", key, sst_index_block_seek(index, len, (const uint8_t *)key, strlen(key), below));
+}
+
+/* Lists five handles in restart intervals of three, whose keys share a prefix, and seeks. */
+static void list_index(void) {
+    static const char *const ends[] = {"key-a", "key-b", "key-b", "key-c", "key-d"};
+    struct sst_keyed_handle handles[5];
+    struct sst_handle_place places[4];
+    uint8_t index[200];
+    size_t len = 0, count = 7;
+    for (size_t i = 0; i < 5; i++) handles[i] = (struct sst_keyed_handle){(const uint8_t *)ends[i], 5, 9 - i, 100 * i, 100};
+    uint32_t status = sst_index_block_encode(handles, 5, 3, index, sizeof index, &len);
+    printf("encode 5 handles at 3: %s, %zu\n", sst_error_name(status), len);
+    for (size_t from = 0; from <= 5; from += 2) print_handles(index, len, from);
+    places[2].seqno = 77;
+    status = sst_index_block_scan(index, len, 3, places, 4, &count);
+    printf("4 places from 3 on: %s, %zu, place 2: %llu\n", sst_error_name(status), count, (unsigned long long)places[2].seqno);
+    status = sst_index_block_scan(index, len, 6, places, 4, &count);
+    printf("from 6 on: %s, %zu\nseek:", sst_error_name(status), count);
+    print_seek(index, len, "key", 5);
+    print_seek(index, len, "key-b", UINT64_MAX);
+    print_seek(index, len, "key-b", 8);
+    print_seek(index, len, "key-b", 7);
+    print_seek(index, len, "key-c", 1);
+    print_seek(index, len, "key-e", 5);
+    printf("\n");
+}
+
 /* Encodes two handles as an index block, and looks up keys. */
 static void use_index(void) {
     struct sst_keyed_handle handles[2] = {{(const uint8_t *)"b", 1, 5, 0, 100},
@@ -119,6 +163,29 @@ static void use_filter(void) {
     printf("other magic: %s\n", sst_error_name(sst_filter_may_contain(filter, len, SST_XXH3, keys[0], 16)));
     status = sst_filter_build(names, 0, 10, SST_XXH3, filter, sizeof filter, &len);
     printf("of no key: %s\n", sst_error_name(status));
+}
+
+/* Builds the same filter of the hashes that a block's write gives, and asks it by hash. */
+static void use_hashes(void) {
+    static uint8_t frame[4096], by_keys[200], by_hashes[200];
+    static uint64_t hashes[COUNT];
+    struct sst_run_config config = {0, 1, 10, 16, 1, SST_POLY31};
+    struct sst_bytes names[COUNT];
+    size_t len = 0, key_len = 0;
+    fill();
+    for (int i = 0; i < COUNT; i++) names[i] = (struct sst_bytes){keys[i], 16};
+    printf("hashes of a block: %s; ", sst_error_name(sst_run_block_write(entries, COUNT, &config, frame, sizeof frame, &len, hashes, COUNT)));
+    printf("a filter of the keys: %s\n", sst_error_name(sst_filter_build(names, COUNT, 10, SST_POLY31, by_keys, sizeof by_keys, &key_len)));
+    printf("build a filter of hashes: %s, ", sst_error_name(sst_filter_build_hashes(hashes, COUNT, 10, by_hashes, sizeof by_hashes, &len)));
+    printf("%s as that of the keys\n", len == key_len && memcmp(by_keys, by_hashes, len) == 0 ? "the same" : "not the same");
+    int found = 0;
+    for (int i = 0; i < COUNT; i++) found += sst_filter_may_contain_hash(by_hashes, len, hashes[i]) == SST_OK;
+    printf("of %d hashes: %d; ", COUNT, found);
+    printf("another: %s, ", sst_error_name(sst_filter_may_contain_hash(by_hashes, len, hashes[0] + 1)));
+    printf("21 bytes: %s, ", sst_error_name(sst_filter_may_contain_hash(by_hashes, 21, hashes[0])));
+    printf("into 21 bytes: %s, ", sst_error_name(sst_filter_build_hashes(hashes, COUNT, 10, by_hashes, 21, &len)));
+    printf("of no hash: %s, ", sst_error_name(sst_filter_build_hashes(hashes, 0, 10, by_hashes, sizeof by_hashes, &len)));
+    printf("of no bit: %s\n", sst_error_name(sst_filter_build_hashes(hashes, COUNT, 0, by_hashes, sizeof by_hashes, &len)));
 }
 
 /* Writes a frame, checks it, and damages it. */
@@ -180,6 +247,8 @@ int main(void) {
     use_frame(block, len);
     free(block);
     use_index();
+    list_index();
     use_filter();
+    use_hashes();
     return 0;
 }

@@ -1,32 +1,13 @@
-//! The block layer after calls from C: `examples/c/sst.h` is the document for callers.
+//! The calls for C of the block layer: `examples/c/sst.h` is the document for callers.
 //!
-//! Bytes and arrays are borrowed for the call; nothing that owns memory crosses, and nothing is
-//! kept between calls, so any thread may call. A call returns a code: see [`codes`].
+//! Each call is one of a function of `sst_calls`, and returns the code of the status that it
+//! returns. A static library exports no function of another crate.
 #![tactic(auto)]
 
-pub mod block_scan;
-mod block_view;
-pub mod codes;
-pub mod compact;
-pub mod data_block;
-pub mod entries;
-pub mod filter;
-pub mod footer;
-pub mod frame;
-mod fronts;
-pub mod handles;
-pub mod hash;
-pub mod index_block;
-pub mod merge_scan;
-pub mod open_run;
-mod output;
-mod placed;
-pub mod run;
-pub mod run_check;
-mod run_entries;
-pub mod run_range;
-pub mod run_scan;
-pub mod run_write;
-pub mod version;
-mod walk;
-pub mod window;
+mod blocks;
+mod filters;
+mod frames;
+mod runs;
+mod scans;
+mod version;
+mod writes;

@@ -4,7 +4,7 @@ use Rattle.std.specs.List.{AllByRecursion}
 use Rattle.sstable_blocks.specs.Prelude.{Entry, plain, entries, IsOrdered, first_match}
 use Rattle.sstable_blocks.specs.Results.{Error, Memory, TooLong}
 use Rattle.sstable_blocks.specs.ValueTypes.{ValueType}
-use Rattle.sst_merge.specs.Merge.{entry_cmp, merge}
+use Rattle.sst_sources.specs.Merge.{entry_cmp, merge}
 use Rattle.sst_merge.specs.Snapshot.{seen}
 
 -- what clauses see of a store: the versions in memory and those of its tables, both in order, the next sequence number, and

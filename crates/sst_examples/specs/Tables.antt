@@ -5,8 +5,8 @@ use Rattle.xxh3.specs.Xxh3.{xxh3_64, xxh3_128}
 use Rattle.sstable_blocks.specs.Blocks.{joined}
 use Rattle.sstable_blocks.specs.Prelude.{Entry}
 use Rattle.sstable_blocks.specs.TableKinds.{TableKind}
-use Rattle.sst_merge.specs.Merge.{entry_cmp, merged}
-use Rattle.sst_merge.specs.Sources.{all_known}
+use Rattle.sst_sources.specs.Merge.{entry_cmp, merged}
+use Rattle.sst_sources.specs.Sources.{all_known}
 use Rattle.sst_parts.specs.StoredParts.{any_list}
 use Rattle.sst_parts.specs.declared.any_table.AnyTable.{AnyTable}
 use Rattle.sstable_blocks.specs.RunReading.{Hashes, hashes}

@@ -6,7 +6,7 @@ use Rattle.std.specs.List.{list_any, list_all}
 use Rattle.std.specs.Option.{option_map}
 use Rattle.sstable_blocks.specs.Prelude.{Entry, is_tombstone}
 use Rattle.sst_merge.specs.Snapshot.{has_last_key, kept_between}
-use Rattle.sst_merge.specs.Sources.{Left}
+use Rattle.sst_sources.specs.Sources.{Left}
 
 -- does a snapshot see a version with this number? It sees those strictly below its own
 abbrev pub is_seen : List ℕ → ℕ → Bool

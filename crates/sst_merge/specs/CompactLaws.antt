@@ -14,7 +14,7 @@ use Rattle.sstable_blocks.specs.BlockLaws.{slice_cmp-equal, and_parts, eq_is}
 use Rattle.sst_merge.specs.Compact.{is_seen, is_parted, is_below_all, IsKeptRead, is_hidden, is_parted_from, is_left_under, is_dropped, unless_dropped, compact_from, compacted}
 use Rattle.sst_merge.specs.Snapshot.{has_last_key}
 use Rattle.sst_merge.specs.SnapshotReads.{both_false, key, number, has, is_match, has_key, NoneHas, order, after_by, none_behind, skip}
-use Rattle.sst_merge.specs.ListLaws.{first, first_hit, first_miss, and_not_parts}
+use Rattle.sst_sources.specs.ListLaws.{first, first_hit, first_miss, and_not_parts}
 use Rattle.sstable_blocks.specs.EndLaws.{tail_in_order}
 
 -- where no snapshot parts two numbers, a kept read that sees the one sees the other

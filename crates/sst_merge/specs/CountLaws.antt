@@ -7,8 +7,8 @@ use Rattle.std.proofs.lemmas.List.{drop_more, drop_all, take_all, get_or-map, le
 use Rattle.std.proofs.lemmas.List.Sums.{sum_by-cons, sum_by_more}
 use Rattle.sstable_blocks.specs.Prelude.{Counted, CountsBetween}
 use Rattle.sst_merge.specs.Counts.{most_of}
-use Rattle.sst_merge.specs.SourceLaws.{known_split, known_length}
-use Rattle.sst_merge.specs.Sources.{all_known}
+use Rattle.sst_sources.specs.SourceLaws.{known_split, known_length}
+use Rattle.sst_sources.specs.Sources.{all_known}
 
 -- one of those that are known
 known_get : {A : Type 0} (os : List (Option A)) (all : List A) (i : ℕ) (d : Option A) (a : A) → all_known os ≡ Some all → i < length os → get_or os i d ≡ Some (get_or all i a)

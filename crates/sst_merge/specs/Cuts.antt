@@ -2,7 +2,7 @@
 use Rattle.std.specs.Prelude.{◌≡◌, ℕ, zero, suc, ◌+◌, ◌<◌, ◌≤◌, nat_lt, Bool, true, false, not, List, [], ◌∷◌, Some, slice_get, take, drop}
 use Rattle.std.specs.Ordering.{is_lt}
 use Rattle.std.specs.declared.cmp.Ordering.{Ordering}
-use Rattle.sst_merge.specs.Picks.{list_at}
+use Rattle.sst_sources.specs.Picks.{list_at}
 
 -- this is the item at an index of one of some lists
 abbrev pub IsItem : {X : Type 0} → List (List X) → ℕ → ℕ → X → Type 0

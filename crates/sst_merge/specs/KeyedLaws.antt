@@ -7,7 +7,7 @@ use Rattle.std.specs.Cmp.Lexicographic.{slice_cmp}
 use Rattle.std.specs.Ordering.{nat_cmp, ordering_then, is_eq, is_lt}
 use Rattle.sstable_blocks.specs.Prelude.{Entry}
 use Rattle.sstable_blocks.specs.BlockLaws.{eq_is, lt_is, slice_cmp-equal}
-use Rattle.sst_merge.specs.Merge.{entry_cmp}
+use Rattle.sst_sources.specs.Merge.{entry_cmp}
 use Rattle.sst_merge.specs.TableLaws.{last_of}
 
 -- an entry of a lesser user key sorts before the other

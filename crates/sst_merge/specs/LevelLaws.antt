@@ -14,10 +14,10 @@ use Rattle.sst_merge.specs.Compact.{IsKeptRead, compacted}
 use Rattle.sst_merge.specs.CompactLaws.{compact-ordered}
 use Rattle.sst_merge.specs.Levels.{IsAbove, HasNone, AreWithin, is_outside}
 use Rattle.sst_merge.specs.ManyLaws.{above_match, still_or_gone, IsStillOrGone}
-use Rattle.sst_merge.specs.Merge.{merged, lesser, least_match, entry_cmp}
+use Rattle.sst_sources.specs.Merge.{merged, lesser, least_match, entry_cmp}
 use Rattle.sst_merge.specs.ReadLaws.{merged_match}
 use Rattle.sst_merge.specs.Snapshot.{seen}
-use Rattle.sst_merge.specs.ListLaws.{first, first_hit, first_miss}
+use Rattle.sst_sources.specs.ListLaws.{first, first_hit, first_miss}
 
 -- what holds of all holds of the first that passes
 first_has : (test : Entry → Bool) (P : Entry → Type 0) (xs : List Entry) → AllByRecursion P xs → IfSome (first test xs) (λ e. P e × (test e ≡ true))

@@ -2,7 +2,7 @@
 use Rattle.std.specs.Prelude.{◌≡◌, ◌≢◌, ℕ, ◌+◌, ◌≤◌, Bool, true, not, is_some, if◌then◌else◌, List, [], ◌∷◌}
 use Rattle.std.specs.List.{AllByRecursion, list_any}
 use Rattle.sstable_blocks.specs.Prelude.{Entry, entries, first_match}
-use Rattle.sst_merge.specs.Ranges.{covers}
+use Rattle.sst_sources.specs.Ranges.{covers}
 
 -- of a key that both lists have, no version of the first is older than one of the second
 abbrev pub IsAbove : List Entry → List Entry → Type 0

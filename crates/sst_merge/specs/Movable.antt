@@ -6,8 +6,8 @@ use Rattle.std.specs.Ordering.{nat_cmp, is_lt, is_le}
 use Rattle.std.specs.declared.cmp.Ordering.{Ordering}
 use Rattle.sstable_blocks.specs.Prelude.{Entry, IsInOrder, entries, IsOrdered, Window, whole}
 use Rattle.sst_merge.specs.Cuts.{IsCut, IsItem, comes_first, IsFirstList, IsLastList}
-use Rattle.sst_merge.specs.Merge.{merged}
-use Rattle.sst_merge.specs.Picks.{list_at}
+use Rattle.sst_sources.specs.Merge.{merged}
+use Rattle.sst_sources.specs.Picks.{list_at}
 
 -- does an item's user key sort before this one, and does it not sort after it?
 abbrev pub is_below : {X : Type 0} → (X → List ℕ) → List ℕ → X → Bool

@@ -9,12 +9,12 @@ use Rattle.sstable_blocks.specs.Blocks.{joined}
 use Rattle.sstable_blocks.specs.Opened.{range_of}
 use Rattle.sstable_blocks.specs.RunReading.{Hashes, block_items_at}
 use Rattle.sstable_blocks.specs.Tables.{TableParts}
-use Rattle.sst_merge.specs.Merge.{entry_cmp}
+use Rattle.sst_sources.specs.Merge.{entry_cmp}
 use Rattle.sst_merge.specs.Movable.{item_before}
 use Rattle.sst_merge.specs.MovableBlocks.{HoldsBack, HoldsFront, back_place, front_place, window_of}
 use Rattle.sst_merge.specs.Moved.{Moved, unless_ended}
-use Rattle.sst_merge.specs.Sources.{IsAmong}
-use Rattle.sst_merge.specs.Stored.{MayFailAnyTime, reported}
+use Rattle.sst_sources.specs.Sources.{IsAmong}
+use Rattle.sst_sources.specs.Stored.{MayFailAnyTime, reported}
 use Rattle.sst_merge.specs.declared.movable_blocks.Open.{Open}
 use Rattle.sst_merge.specs.declared.open_end.OpenEnd.{OpenEnd}
 

@@ -6,7 +6,7 @@ use Rattle.std.specs.declared.cmp.Ordering.{Ordering}
 use Rattle.sstable_blocks.specs.Prelude.{found_item, Step, Window, item, whole}
 use Rattle.sstable_blocks.specs.Results.{Error}
 use Rattle.sst_merge.specs.Movable.{IsFresh, item_before, merged_window}
-use Rattle.sst_merge.specs.Sources.{IsAmong, before, errors_of}
+use Rattle.sst_sources.specs.Sources.{IsAmong, before, errors_of}
 use Rattle.sstable_blocks.specs.Scans.{EndsBy}
 
 -- a source that is moved: its window, where its list is known and no error ended it; the errors that reading the list may

@@ -12,7 +12,7 @@ use Rattle.sst_merge.specs.TableLaws.{taken_none, taken_both}
 use Rattle.sst_merge.specs.SizeLaws.{apart_part}
 use Rattle.sstable_blocks.specs.TableKinds.{TableKind}
 use Rattle.sst_merge.specs.Tables.{IsApart, IsShortest, IsTableOf}
-use Rattle.sst_merge.specs.Sources.{IsTaken}
+use Rattle.sst_sources.specs.Sources.{IsTaken}
 use Rattle.sst_merge.specs.declared.writing.Sizes.{Sizes}
 use Rattle.sstable_blocks.specs.RunLaws.{joined_push}
 

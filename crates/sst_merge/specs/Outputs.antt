@@ -6,7 +6,7 @@ use Rattle.sstable_blocks.specs.Prelude.{Entry}
 use Rattle.sstable_blocks.specs.Results.{Error, Io, OutOfOrder, TooLong}
 use Rattle.sstable_blocks.specs.Blocks.{joined}
 use Rattle.sstable_blocks.specs.declared.run.RunHandles.{RunHandles}
-use Rattle.sst_merge.specs.Sources.{IsTaken}
+use Rattle.sst_sources.specs.Sources.{IsTaken}
 use Rattle.sstable_blocks.specs.TableKinds.{TableKind}
 use Rattle.sst_merge.specs.Tables.{IsApart, IsFilled, IsOutOfOrder, IsShortest, IsTooLong, Reaches, blocks_len}
 use Rattle.sst_merge.specs.declared.writing.Sizes.{Sizes}

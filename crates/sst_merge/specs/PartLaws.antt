@@ -6,9 +6,9 @@ use Rattle.std.specs.declared.cmp.Ordering.TheVariants.{Less}
 use Rattle.sstable_blocks.specs.Prelude.{Entry, IsInOrder, entries, IsOrdered}
 use Rattle.sstable_blocks.specs.BlockLaws.{versions_cmp_total, is_not_lt}
 use Rattle.sstable_blocks.specs.Blocks.{joined}
-use Rattle.sst_merge.specs.Merge.{merge, merged, entry_cmp}
-use Rattle.sst_merge.specs.MergeLaws.{merge-first}
-use Rattle.sst_merge.specs.MergeReads.{ge_trans}
+use Rattle.sst_sources.specs.Merge.{merge, merged, entry_cmp}
+use Rattle.sst_sources.specs.MergeLaws.{merge-first}
+use Rattle.sst_sources.specs.MergeReads.{ge_trans}
 use Rattle.sstable_blocks.specs.EndLaws.{tail_in_order, back_in_order}
 
 module _ {X : Type 0} (cmp : X → X → Ordering) (order : IsTotalOrder cmp) where

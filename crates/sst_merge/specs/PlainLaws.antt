@@ -12,7 +12,7 @@ use Rattle.sstable_blocks.specs.Prelude.{Entry, IsInOrder, is_tombstone}
 use Rattle.sstable_blocks.specs.BlockLaws.{keys_equal}
 use Rattle.sst_merge.specs.Snapshot.{visible_from, snapshot, unless_deleted, has_last_key, has_version, is_shown, shown, kept_after}
 use Rattle.sst_merge.specs.SnapshotReads.{order, skip}
-use Rattle.sst_merge.specs.ListLaws.{left_out}
+use Rattle.sst_sources.specs.ListLaws.{left_out}
 use Rattle.sstable_blocks.specs.EndLaws.{tail_in_order}
 
 or_same : (b : Bool) → (b || b) ≡ b

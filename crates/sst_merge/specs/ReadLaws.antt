@@ -6,9 +6,9 @@ use Rattle.std.specs.Cmp.Lexicographic.{slice_cmp}
 use Rattle.std.specs.List.{AllByRecursion}
 use Rattle.sstable_blocks.specs.Prelude.{Entry, plain, entries, IsOrdered, first_match, is_version, is_tombstone}
 use Rattle.sstable_blocks.specs.BlockLaws.{versions_cmp_total}
-use Rattle.sst_merge.specs.Merge.{merge, merged, lesser, least_match, entry_cmp}
-use Rattle.sst_merge.specs.MergeLaws.{merge-ordered}
-use Rattle.sst_merge.specs.MergeReads.{merge-first_match}
+use Rattle.sst_sources.specs.Merge.{merge, merged, lesser, least_match, entry_cmp}
+use Rattle.sst_sources.specs.MergeLaws.{merge-ordered}
+use Rattle.sst_sources.specs.MergeReads.{merge-first_match}
 use Rattle.sst_merge.specs.PlainLaws.{snapshot-shown}
 use Rattle.sst_merge.specs.Snapshot.{seen, shown, snapshot}
 use Rattle.sst_merge.specs.SnapshotReads.{unless_hidden, snapshot-first_match}

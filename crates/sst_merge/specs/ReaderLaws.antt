@@ -11,11 +11,11 @@ use Rattle.sstable_blocks.specs.Prelude.{Entry, entries, IsOrdered, first_match}
 use Rattle.sst_merge.specs.Counts.{OneFails}
 use Rattle.sst_merge.specs.LevelLaws.{level_match}
 use Rattle.sst_merge.specs.Levels.{AreLevels, IsAbove, asked}
-use Rattle.sst_merge.specs.Merge.{entry_cmp, lesser, least_match, merged}
-use Rattle.sst_merge.specs.Picks.{list_at, from_here}
+use Rattle.sst_sources.specs.Merge.{entry_cmp, lesser, least_match, merged}
+use Rattle.sst_sources.specs.Picks.{list_at, from_here}
 use Rattle.sst_merge.specs.ReadLaws.{merged_match}
-use Rattle.sst_merge.specs.SourceLaws.{known_at, known_length, known_split}
-use Rattle.sst_merge.specs.Sources.{all_known}
+use Rattle.sst_sources.specs.SourceLaws.{known_at, known_length, known_split}
+use Rattle.sst_sources.specs.Sources.{all_known}
 
 -- what is read of lists
 abbrev pub matches : List ℕ → ℕ → List (List Entry) → Option Entry

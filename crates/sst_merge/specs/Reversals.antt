@@ -8,9 +8,9 @@ use Rattle.std.specs.declared.cmp.Ordering.{Ordering}
 use Rattle.std.specs.declared.cmp.Ordering.TheVariants.{Less}
 use Rattle.sstable_blocks.specs.Prelude.{IsInOrder}
 use Rattle.sstable_blocks.specs.BlockLaws.{lt_is, not_lt, is_not_lt, push_reverse, all_reverse}
-use Rattle.sst_merge.specs.Merge.{merge, merged}
-use Rattle.sst_merge.specs.MergeReads.{ge_trans}
-use Rattle.sst_merge.specs.MergeLaws.{merge-nil, merge-first, merge-second, merge-ordered}
+use Rattle.sst_sources.specs.Merge.{merge, merged}
+use Rattle.sst_sources.specs.MergeReads.{ge_trans}
+use Rattle.sst_sources.specs.MergeLaws.{merge-nil, merge-first, merge-second, merge-ordered}
 use Rattle.sstable_blocks.specs.EndLaws.{tail_in_order}
 
 module _ {X : Type 0} (cmp : X → X → Ordering) where

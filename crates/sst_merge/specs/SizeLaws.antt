@@ -9,7 +9,7 @@ use Rattle.std.specs.Option.{option_map, IfSome}
 use Rattle.sstable_blocks.specs.Prelude.{Entry, varint, body, item_form, entries}
 use Rattle.sstable_blocks.specs.BlockLaws.{varint_within_more, varint_within_small, body-append}
 use Rattle.sstable_blocks.specs.Blocks.{joined}
-use Rattle.sst_merge.specs.Sources.{IsTaken}
+use Rattle.sst_sources.specs.Sources.{IsTaken}
 use Rattle.sst_merge.specs.TableLaws.{last_of}
 use Rattle.sst_merge.specs.Tables.{IsApart, IsFilled, IsShortest, Reaches, capped, block_len, blocks_len}
 use Rattle.sstable_blocks.specs.RunLaws.{joined_push}

@@ -11,8 +11,8 @@ use Rattle.sstable_blocks.specs.Prelude.{Entry, versions_cmp, IsInOrder, is_tomb
 use Rattle.sstable_blocks.specs.BlockLaws.{slice_cmp-equal, versions_cmp_total, keys_equal}
 use Rattle.sst_merge.specs.Snapshot.{visible_from, snapshot, is_newest, has_last_key}
 use Rattle.sst_merge.specs.SnapshotLaws.{visible-passed, visible-newest}
-use Rattle.sst_merge.specs.MergeReads.{ge_trans}
-use Rattle.sst_merge.specs.ListLaws.{first, first_hit, first_miss}
+use Rattle.sst_sources.specs.MergeReads.{ge_trans}
+use Rattle.sst_sources.specs.ListLaws.{first, first_hit, first_miss}
 use Rattle.sstable_blocks.specs.EndLaws.{tail_in_order}
 
 pub both_false : (a b : Bool) → b ≡ false → (a && b) ≡ false

@@ -16,7 +16,7 @@ use Rattle.sst_merge.specs.Compact.{is_seen, is_parted, is_hidden, is_left_under
 use Rattle.sst_merge.specs.PlainLaws.{Behind, behind_first, behind_rest, key_after, last_is, other, or_false}
 use Rattle.sst_merge.specs.Snapshot.{has_last_key, kept_between}
 use Rattle.sst_merge.specs.SnapshotReads.{order, skip, both_false, first_false}
-use Rattle.sst_merge.specs.ListLaws.{left_out, and_not_parts}
+use Rattle.sst_sources.specs.ListLaws.{left_out, and_not_parts}
 use Rattle.sstable_blocks.specs.EndLaws.{tail_in_order}
 
 -- a snapshot that sees the one number and none that sees the other

@@ -4,7 +4,7 @@ use Rattle.std.specs.Option.{option_map}
 use Rattle.sstable_blocks.specs.Prelude.{Entry, is_tombstone}
 use Rattle.sst_merge.specs.Compact.{is_seen, is_hidden, is_left_under, compact_from}
 use Rattle.sst_merge.specs.CompactLaws.{newest}
-use Rattle.sst_merge.specs.Sources.{list_held}
+use Rattle.sst_sources.specs.Sources.{list_held}
 
 module _ {X Y : Type 0} (f : List X → Y) where
   -- an item before others that changes nothing is passed

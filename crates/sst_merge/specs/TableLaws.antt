@@ -4,7 +4,7 @@ use Rattle.std.proofs.lemmas.List.{append_assoc, length_push}
 use Rattle.std.specs.Option.{option_map, is_some, IfSome}
 use Rattle.sstable_blocks.specs.Prelude.{Entry}
 use Rattle.sstable_blocks.specs.Blocks.{joined}
-use Rattle.sst_merge.specs.Sources.{IsTaken}
+use Rattle.sst_sources.specs.Sources.{IsTaken}
 use Rattle.sst_merge.specs.Tables.{IsApart}
 use Rattle.sstable_blocks.specs.RunLaws.{joined_push}
 

@@ -7,7 +7,7 @@ use Rattle.sstable_blocks.specs.Results.{Error, Io, OutOfOrder, TooLong}
 use Rattle.sstable_blocks.specs.Blocks.{joined}
 use Rattle.sstable_blocks.specs.Writing.{Follows}
 use Rattle.sstable_blocks.specs.declared.run.RunHandles.{RunHandles}
-use Rattle.sst_merge.specs.Sources.{IsTaken, Left, MayGive, MeetsNoMore}
+use Rattle.sst_sources.specs.Sources.{IsTaken, Left, MayGive, MeetsNoMore}
 use Rattle.sstable_blocks.specs.TableKinds.{TableKind}
 use Rattle.sst_merge.specs.declared.writing.Sizes.{Sizes}
 

@@ -3,8 +3,8 @@ use Rattle.std.specs.Prelude.{◌≡◌, ℕ, zero, suc, ◌+◌, ◌*◌, ◌/�
 use Rattle.std.proofs.Math.ListN.{get_or}
 use Rattle.std.proofs.Common.{nat_lt}
 use Rattle.std.specs.declared.cmp.Ordering.{Ordering}
-use Rattle.sst_merge.specs.Picks.{goes}
-use Rattle.sst_merge.specs.Sources.{Left}
+use Rattle.sst_sources.specs.Picks.{goes}
+use Rattle.sst_sources.specs.Sources.{Left}
 
 -- the list of a source, where it is known
 abbrev pub known_list : {X : Type 0} → List (Left X) → ℕ → Option (List X)

@@ -9,10 +9,10 @@ use Rattle.sstable_blocks.specs.Prelude.{Entry, IsInOrder, entries, IsOrdered, i
 use Rattle.sstable_blocks.specs.Results.{Error}
 use Rattle.sstable_blocks.specs.Blocks.{joined}
 use Rattle.sstable_blocks.specs.Writing.{Follows}
-use Rattle.sst_merge.specs.ErrorLaws.{as_gives}
+use Rattle.sst_sources.specs.ErrorLaws.{as_gives, gives_more}
 use Rattle.sst_merge.specs.Outputs.{MayNotWriteAll}
 use Rattle.sst_merge.specs.SizeLaws.{filled_more}
-use Rattle.sst_merge.specs.Sources.{left_as, IsTaken, Left, MayGive, MeetsNoMore}
+use Rattle.sst_sources.specs.Sources.{left_as, IsTaken, Left, MayGive, MeetsNoMore}
 use Rattle.sstable_blocks.specs.TableKinds.{TableKind}
 use Rattle.sst_merge.specs.TableLaws.{taken_block}
 use Rattle.sst_merge.specs.Tables.{IsFilled, IsOutOfOrder, MayNotAdd, MayNotWrite, entries_in}
@@ -22,12 +22,6 @@ use Rattle.sstable_blocks.specs.EndLaws.{back_in_order, front_in_order}
 pub entries_taken : {X : Type 0} (entry : X → Entry) (s t : Option (List X)) (xs : List X) → IsTaken s xs t → IsTaken (entries_in entry s) (map entry xs) (entries_in entry t)
 entries_taken entry s None xs h = ap (option_map (map entry)) h
 entries_taken entry s (Some rest) xs h = ap (option_map (map entry)) h ∙ ap Some (map-append entry xs rest)
-
--- what may be given later may be given
-pub gives_more : {X : Type 0} (may_fail : Error → Type 0) (old new : Left X) (e : Error) → MeetsNoMore old new → MayGive may_fail new e → MayGive may_fail old e
-gives_more may_fail old new e less (inl memory) = inl memory
-gives_more may_fail old new e less (inr (inl device)) = inr (inl device)
-gives_more may_fail old new e less (inr (inr met)) = inr (inr (less e met))
 
 -- what is left of a list that is not in order, or what was taken
 out_of_order_front : (given after : Option (List Entry)) (xs : List Entry) → IsTaken given xs after → (IsOrdered entries xs → ⊥) → IsOutOfOrder given

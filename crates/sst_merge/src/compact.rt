@@ -4,13 +4,13 @@ ghost use Rattle.std.specs.Prelude.{IsOkUnless};
 ghost use Rattle.sst_merge.specs.Compact.{compact_from, compacted};
 ghost use Rattle.sst_merge.specs.Compact.{is_below_all, is_hidden, is_parted, is_seen};
 ghost use Rattle.sst_merge.specs.Compact.{PassesHidden, is_left_under, is_parted_from};
-ghost use Rattle.sst_merge.specs.Sources.{MayGive, MeetsNoMore, TakesFirst, left_as, with_held};
+ghost use Rattle.sst_sources.specs.Sources.{MayGive, MeetsNoMore, TakesFirst, left_as, with_held};
 ghost use Rattle.sstable_blocks.specs.Prelude.{is_tombstone};
 ghost use Rattle.sstable_blocks.specs.Results.{Memory};
 
 use crate::bottom::Bottom;
 use crate::kept_key::{KeepsKey, LastKey};
-use crate::source::{Source, keep_error};
+use sst_sources::{Source, keep_error};
 use sstable_blocks::{AsEntry, Error, Result, SeqNo};
 use std::alloc::Global;
 use std::marker::{Model, PhantomData};
@@ -39,7 +39,7 @@ pub struct Compact<T: KeepsKey, I: Source<T>, B: Bottom> {
 
 impl<T: KeepsKey, I: Source<T>, B: Bottom> Model for Compact<T, I, B> {
     ghost use Rattle.sst_merge.specs.Compact.{compact_from};
-    ghost use Rattle.sst_merge.specs.Sources.{Left, left_as, with_held};
+    ghost use Rattle.sst_sources.specs.Sources.{Left, left_as, with_held};
 
     ghost Value = { Left T };
 

@@ -3,18 +3,16 @@ ghost use Rattle.std.specs.Prelude.{◌≡◌, ◌⊎◌, [], Some, IfErr, OnOk}
 ghost use Rattle.std.specs.Option.{option_map};
 ghost use Rattle.sst_merge.specs.Compact.{compacted};
 ghost use Rattle.sst_merge.specs.Outputs.{AreWritten, MayFail, MayNotWriteAll};
-ghost use Rattle.sst_merge.specs.Sources.{MayGive};
+ghost use Rattle.sst_sources.specs.Sources.{MayGive};
 ghost use Rattle.sst_merge.specs.Tables.{entries_in};
 ghost use Rattle.sstable_blocks.specs.Scans.{EndsBy};
 
 use crate::bottom::Bottom;
 use crate::compact::Compact;
 use crate::kept_key::KeepsKey;
-use crate::merge::Head;
 use crate::output::Outputs;
-use crate::ranked::Ranked;
-use crate::source::Source;
 use crate::writing::{Sizes, write_table};
+use sst_sources::{Head, Ranked, Source};
 use sstable_blocks::{AsEntry, Result, SeqNo, TableWriter};
 use std::alloc::Global;
 

@@ -6,7 +6,7 @@ ghost use Rattle.std.specs.List.{AllByRecursion};
 ghost use Rattle.std.specs.Option.{option_map};
 ghost use Rattle.std.specs.Ordering.{is_lt, nat_cmp};
 ghost use Rattle.sst_merge.specs.KeyedLaws.{entry_by_key};
-ghost use Rattle.sst_merge.specs.Merge.{merged};
+ghost use Rattle.sst_sources.specs.Merge.{merged};
 ghost use Rattle.sst_merge.specs.Movable.{IsBackAmong, IsBackPick, IsFrontAmong, IsFrontPick};
 ghost use Rattle.sst_merge.specs.Movable.{goes_after, goes_before, is_at_most, is_below};
 ghost use Rattle.sst_merge.specs.Movable.{item_before, lists_in, seek_to, seek_up_to};
@@ -18,8 +18,7 @@ ghost use Rattle.sstable_blocks.specs.Prelude.{first_left, last_left, next, next
 ghost use Rattle.sstable_blocks.specs.Prelude.{whole};
 ghost use Rattle.sstable_blocks.specs.Results.{Error};
 
-use crate::ranked::Ranked;
-use crate::source::note_error;
+use sst_sources::{Ranked, note_error};
 use sstable_blocks::{EntryView, Error, InternalValue, Result};
 use std::alloc::Global;
 use std::cmp::Ordering;

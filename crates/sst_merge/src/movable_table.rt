@@ -4,7 +4,7 @@ ghost use Rattle.std.specs.Prelude.{IfSome};
 ghost use Rattle.std.specs.Prelude.{◌*◌, IsOkUnless, None, OnOk, Some, false, min, true};
 ghost use Rattle.std.specs.List.{count_by};
 ghost use Rattle.std.specs.Option.{option_map};
-ghost use Rattle.sst_merge.specs.Merge.{entry_cmp};
+ghost use Rattle.sst_sources.specs.Merge.{entry_cmp};
 ghost use Rattle.sst_merge.specs.Movable.{is_sought};
 ghost use Rattle.sst_merge.specs.MovableBlocks.{HoldsBack, HoldsFront, TakesFirstOf, TakesLastOf};
 ghost use Rattle.sst_merge.specs.MovableBlocks.{entries_before, entry_key, is_block_sought};
@@ -23,7 +23,7 @@ ghost use Rattle.sstable_blocks.specs.Sources.{AsksUpTo};
 
 use crate::movable::Movable;
 use crate::open_end::{OpenEnd, set_end};
-use crate::source::{keep_error, note_error};
+use sst_sources::{keep_error, note_error};
 use sstable_blocks::run::{FrameSource, Table};
 use sstable_blocks::table::block::bound::Bound;
 use sstable_blocks::table::data_block::IntoEntries;

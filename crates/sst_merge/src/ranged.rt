@@ -3,12 +3,12 @@ ghost use Rattle.std.specs.Prelude.{◌≡◌, ◌⊎◌, Some, None, true, fals
 ghost use Rattle.std.specs.Prelude.{IfErr, IfOk, IfSome, Ok};
 ghost use Rattle.std.specs.List.{AllByRecursion};
 ghost use Rattle.std.specs.Option.{option_map};
-ghost use Rattle.sst_merge.specs.RangeLaws.{ranged_if_ordered};
-ghost use Rattle.sst_merge.specs.Ranges.{covers, ranged};
+ghost use Rattle.sst_sources.specs.RangeLaws.{ranged_if_ordered};
+ghost use Rattle.sst_sources.specs.Ranges.{covers, ranged};
 ghost use Rattle.sstable_blocks.specs.Prelude.{CountsBetween, entries, first_match};
 ghost use Rattle.sstable_blocks.specs.Results.{Memory};
 
-use crate::reader::Reader;
+use sst_sources::Reader;
 use sstable_blocks::{InternalValue, Result, SeqNo, Steps, UserKey};
 use std::alloc::Global;
 

@@ -3,51 +3,15 @@ ghost use Rattle.std.specs.Prelude.{◌≡◌, ◌⊎◌, ℕ, List, Option, Som
 ghost use Rattle.std.specs.Prelude.{IfSome};
 ghost use Rattle.sst_merge.specs.Counts.{OneFails, most_of};
 ghost use Rattle.sst_merge.specs.Levels.{AreLevels, asked};
-ghost use Rattle.sst_merge.specs.Merge.{entry_cmp, lesser, merged};
-ghost use Rattle.sst_merge.specs.Sources.{all_known};
+ghost use Rattle.sst_sources.specs.Merge.{entry_cmp, lesser, merged};
+ghost use Rattle.sst_sources.specs.Sources.{all_known};
 ghost use Rattle.sstable_blocks.specs.Prelude.{CountsBetween, Entry, entries, IsOrdered};
 ghost use Rattle.sstable_blocks.specs.Prelude.{first_match};
 ghost use Rattle.sstable_blocks.specs.Results.{Error, Memory};
 
+use sst_sources::Reader;
 use sstable_blocks::{InternalValue, Result, SeqNo, Steps};
 use std::alloc::Global;
-
-/// What is read by key: a table, or what an engine holds in memory.
-pub trait Reader {
-    // Its entries, where they are known.
-    ghost list: { Self → Option (List Entry) };
-
-    // They are in order.
-    ghost ordered: { (s : Self) → IfSome (list s) (IsOrdered entries) };
-
-    // The most heads and entries that a read of a key below a sequence number counts, where they
-    // are known.
-    ghost most: { Self → List ℕ → ℕ → Option (ℕ × ℕ) };
-
-    // The errors that a read of a key below a sequence number may give, where no allocation fails.
-    ghost may_fail: { Self → List ℕ → ℕ → Error → Type 0 };
-
-    /// Returns the first entry with this key whose sequence number is strictly below `seqno`. What
-    /// is examined is added to `steps`.
-    ///
-    /// # Errors
-    ///
-    /// Those of what is read, and `Error::Memory` if an allocation fails.
-    fn get(
-        &mut self,
-        alloc: Global,
-        needle: &[u8],
-        seqno: SeqNo,
-        steps: &mut Steps,
-    ) -> Result<Option<InternalValue>>
-        ensures found { IfSome (list self.old)
-            (λ all. IfOk result (λ found. found ≡ first_match entries needle.now seqno all)) }
-        ensures kept { list self.new ≡ list self.old }
-        ensures counts { IfSome (most self.old needle.now seqno)
-            (CountsBetween steps.old steps.new (0, 0)) }
-        ensures cause { IfErr result
-            (λ e. (e ≡ Memory) ⊎ may_fail self.old needle.now seqno e) };
-}
 
 // Of two first matches, either of which may be wanting, the lesser, and of equal ones the first.
 fn lesser(first: Option<InternalValue>, second: Option<InternalValue>) -> Option<InternalValue>

@@ -1,10 +1,10 @@
 //! What a snapshot sees of ordered versions.
 ghost use Rattle.std.specs.Prelude.{◌≡◌, IfErr, IfOk, OnOk, None};
 ghost use Rattle.sst_merge.specs.Snapshot.{snapshot, visible_from, has_last_key};
-ghost use Rattle.sst_merge.specs.Sources.{MayGive, MeetsNoMore, TakesFirst, left_as};
+ghost use Rattle.sst_sources.specs.Sources.{MayGive, MeetsNoMore, TakesFirst, left_as};
 
 use crate::kept_key::{KeepsKey, LastKey};
-use crate::source::{Source, keep_error};
+use sst_sources::{Source, keep_error};
 use sstable_blocks::{Error, Result, SeqNo};
 use std::alloc::Global;
 use std::marker::{Model, PhantomData};
@@ -24,7 +24,7 @@ pub struct Snapshot<T: KeepsKey, I: Source<T>> {
 
 impl<T: KeepsKey, I: Source<T>> Model for Snapshot<T, I> {
     ghost use Rattle.sst_merge.specs.Snapshot.{visible_from};
-    ghost use Rattle.sst_merge.specs.Sources.{Left, left_as};
+    ghost use Rattle.sst_sources.specs.Sources.{Left, left_as};
 
     ghost Value = { Left T };
 

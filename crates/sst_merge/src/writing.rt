@@ -2,15 +2,13 @@
 ghost use Rattle.std.specs.Prelude.{◌≡◌, ◌+◌, ◌≤◌, ◌<◌, [], ◌⊎◌, ℕ, false, true};
 ghost use Rattle.std.specs.Prelude.{length, map, IfErr, IfOk, OnOk, IfSome, IfNone};
 ghost use Rattle.sstable_blocks.specs.Scans.{EndsBy};
-ghost use Rattle.sst_merge.specs.Sources.{MayGive, MeetsNoMore};
+ghost use Rattle.sst_sources.specs.Sources.{MayGive, MeetsNoMore};
 ghost use Rattle.sstable_blocks.specs.TableKinds.{AddsBlock};
 ghost use Rattle.sst_merge.specs.Tables.{IsApart, IsTableOf, MayNotAdd, MayNotWrite};
 ghost use Rattle.sst_merge.specs.Tables.{TakesBlock, block_len, capped, entries_in};
 
 use crate::block_len::{form_len, next_phase};
-use crate::merge::Head;
-use crate::ranked::Ranked;
-use crate::source::Source;
+use sst_sources::{Head, Ranked, Source};
 use sstable_blocks::{AsEntry, Error, Result, RunHandles, TableWriter};
 use std::alloc::Global;
 

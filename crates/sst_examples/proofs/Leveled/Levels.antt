@@ -10,16 +10,16 @@ use Rattle.sstable_blocks.specs.Prelude.{Entry, plain, plain_value, entries, IsO
 use Rattle.sstable_blocks.specs.BlockLaws.{slice_cmp-equal}
 use Rattle.sstable_blocks.specs.ValueTypes.{ValueType}
 use Rattle.sst_merge.specs.Compact.{IsKeptRead, compacted}
-use Rattle.sst_merge.specs.Merge.{entry_cmp, merge, merged}
-use Rattle.sst_merge.specs.MergeLaws.{merge-nil}
+use Rattle.sst_sources.specs.Merge.{entry_cmp, merge, merged}
+use Rattle.sst_sources.specs.MergeLaws.{merge-nil}
 use Rattle.sst_merge.specs.ReadLaws.{merge_order}
 use Rattle.sstable_blocks.specs.BoundLaws.{plain_ordered}
 use Rattle.sst_merge.specs.Snapshot.{seen}
-use Rattle.sst_merge.specs.Sources.{all_known, before}
+use Rattle.sst_sources.specs.Sources.{all_known, before}
 use Rattle.sst_examples.specs.Levels.{AreBelow, AreLevels, ArePlain, IsVersionWritten, Levels, levels, or_none, version, versions}
 use Rattle.sst_examples.specs.Tables.{HoldsEntries, MemoryTable, merged_tables, table_entries}
-use Rattle.sst_merge.specs.MergeLaws.{all_merge}
-use Rattle.sst_merge.specs.RangeLaws.{version_key}
+use Rattle.sst_sources.specs.MergeLaws.{all_merge}
+use Rattle.sst_sources.specs.RangeLaws.{version_key}
 use Rattle.sst_examples.proofs.Leveled.Newer.{all_compact, all_plain, all_weaker, newer_read, one_read, or_older, or_older_both}
 
 -- all versions in order

@@ -10,8 +10,8 @@ use Rattle.std.specs.declared.cmp.Ordering.TheVariants.{Equal, Greater}
 use Rattle.sstable_blocks.specs.Prelude.{Entry, plain, entries, IsOrdered, first_match, is_version}
 use Rattle.sstable_blocks.specs.BlockLaws.{slice_cmp-equal}
 use Rattle.sst_merge.specs.Compact.{compact_from, is_seen, is_hidden, is_dropped, unless_dropped}
-use Rattle.sst_merge.specs.Merge.{entry_cmp, lesser, merge}
-use Rattle.sst_merge.specs.RangeLaws.{version_key}
+use Rattle.sst_sources.specs.Merge.{entry_cmp, lesser, merge}
+use Rattle.sst_sources.specs.RangeLaws.{version_key}
 use Rattle.sst_merge.specs.ReadLaws.{merge_match}
 use Rattle.sst_examples.specs.Levels.{AreBelow, AreNewer}
 

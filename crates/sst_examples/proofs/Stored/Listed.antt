@@ -9,14 +9,13 @@ use Rattle.xxh3.specs.Xxh3Laws.{xxh3_128-below}
 use Rattle.sstable_blocks.specs.Prelude.{HandleParts, IsBytes, Entry, plain, Handle}
 use Rattle.sstable_blocks.specs.BlockLaws.{and_parts, lt_test, some_is}
 use Rattle.sstable_blocks.specs.Results.{◌>>=◌, Error, BadHandle}
-use Rattle.sstable_blocks.specs.BlockTypes.{Index, Meta}
 use Rattle.sstable_blocks.specs.BlockTypes as types
-use Rattle.sst_merge.specs.Merge.{entry_cmp, merged}
+use Rattle.sst_sources.specs.Merge.{entry_cmp, merged}
 use Rattle.sstable_blocks.specs.BoundLaws.{plain_ordered}
-use Rattle.sst_merge.specs.Sources.{all_known}
-use Rattle.sst_merge.specs.Stored.{all_keys, are_bytes, check_of, checked_list, filter_fits, known_reads, table_list}
-use Rattle.sst_merge.specs.StoredLaws.{known_all}
-use Rattle.sst_parts.specs.AnyTables.{AnyKept, HasEntries, any_by_handles, any_by_type, index_at, index_of, kept_in, source_in, type_at}
+use Rattle.sst_sources.specs.Sources.{all_known}
+use Rattle.sst_sources.specs.Stored.{all_keys, are_bytes, check_of, checked_list, filter_fits, known_reads, table_list}
+use Rattle.sst_sources.specs.StoredLaws.{known_all}
+use Rattle.sst_parts.specs.AnyTables.{AnyKept, HasEntries, any_by_handles, any_by_kind, index_at, index_of, is_parted_at, kept_in, source_in}
 use Rattle.sst_parts.specs.AnyTables.{plain as plain_kept, parted as parted_kept}
 use Rattle.sst_parts.specs.KnownLaws.{bytes_pass, known_checked, size_fits}
 use Rattle.sst_parts.specs.Parts.{IsParted, tops_at}
@@ -31,7 +30,7 @@ use Rattle.sstable_blocks.specs.Scans.{KeyRange, blocks_read, handles_within, wi
 use Rattle.sstable_blocks.specs.Sound.{IsSound, IsStoredFilter}
 use Rattle.sstable_blocks.specs.declared.run.RunHandles.{RunHandles}
 use Rattle.sstable_blocks.specs.declared.run.checking.RunSummary.{RunSummary}
-use Rattle.sst_merge.specs.TableReads.{bytes_by, fits_by, order_passes, within_all}
+use Rattle.sst_sources.specs.TableReads.{bytes_by, fits_by, order_passes, within_all}
 
 module _ (c : Hashes) (bytes : List ℕ) where
   filter_passes : (items : List Entry) (o : Option HandleParts) → IfSome o (IsStoredFilter c bytes items) → filter_fits o ≡ true
@@ -136,26 +135,26 @@ module _ (top : HandleParts) where
 
 module _ (bytes : List ℕ) (h : RunHandles) (are : IsBytes bytes) where
   -- a table that was opened over a sound run
-  pub plain_opened : (t : MemoryTable) (blocks : List (List Entry)) → any_by_handles table_hashes bytes h ≡ Ok (kept_in t) → type_at bytes h.index ≡ Ok Index → index_at table_hashes (source_in t).inner t ≡ Ok (index_of t) → (source_in t).inner ≡ bytes
+  pub plain_opened : (t : MemoryTable) (blocks : List (List Entry)) → any_by_handles table_hashes bytes h ≡ Ok (kept_in t) → is_parted_at table_hashes bytes h.index ≡ Ok false → index_at table_hashes (source_in t).inner t ≡ Ok (index_of t) → (source_in t).inner ≡ bytes
       → ((c : Hashes) (blocks : List (List Entry)) (bytes : List ℕ) (h : RunHandles) (index : List Handle) → ((xs : List ℕ) → c.hash128 xs < 2 ^ 128) → IsBytes bytes → IsSound c blocks bytes h → handles_at c bytes h.index ≡ Ok index → table_list c (Some bytes) h index ≡ Some (map plain (joined blocks)))
       → IsSound table_hashes blocks bytes h → table_entries t ≡ Some (map plain (joined blocks))
   unfolding table_entries
   plain_opened (Parted t) blocks opened kind at same law sound =
-      absurd (not_parted h (kept_of table_hashes bytes h) (t.top, t.tops) (sym (ap (λ r. r >>= any_by_type table_hashes bytes h) kind) ∙ opened))
+      absurd (not_parted h (kept_of table_hashes bytes h) (t.top, t.tops) (sym (ap (λ r. r >>= any_by_kind table_hashes bytes h) kind) ∙ opened))
   plain_opened (Plain t) blocks opened kind at same law sound =
-      let handles : t.handles ≡ h = same_handles h (kept_of table_hashes bytes h) (t.handles, t.filter, t.index) (sym (ap (λ r. r >>= any_by_type table_hashes bytes h) kind) ∙ opened) in
+      let handles : t.handles ≡ h = same_handles h (kept_of table_hashes bytes h) (t.handles, t.filter, t.index) (sym (ap (λ r. r >>= any_by_kind table_hashes bytes h) kind) ∙ opened) in
       law table_hashes blocks t.source.inner t.handles t.index xxh3_128-below (subst IsBytes (sym same) are)
       (subst (λ bs. IsSound table_hashes blocks bs t.handles) (sym same) (subst (IsSound table_hashes blocks bytes) (sym handles) sound)) at
 
   -- and one over a parted table
-  pub parted_opened : (t : MemoryTable) (parts : List (List (List Entry))) → any_by_handles table_hashes bytes h ≡ Ok (kept_in t) → type_at bytes h.index ≡ Ok Meta → index_at table_hashes (source_in t).inner t ≡ Ok (index_of t) → (source_in t).inner ≡ bytes
+  pub parted_opened : (t : MemoryTable) (parts : List (List (List Entry))) → any_by_handles table_hashes bytes h ≡ Ok (kept_in t) → is_parted_at table_hashes bytes h.index ≡ Ok true → index_at table_hashes (source_in t).inner t ≡ Ok (index_of t) → (source_in t).inner ≡ bytes
       → ((c : Hashes) (parts : List (List (List Entry))) (bytes : List ℕ) (top : HandleParts) (tops : List Handle) → ((xs : List ℕ) → c.hash128 xs < 2 ^ 128) → IsBytes bytes → IsParted c parts bytes top → tops_at c bytes top ≡ Ok tops → parted_list c (Some bytes) top tops ≡ Some (map plain (joined (joined parts))))
       → IsParted table_hashes parts bytes h.index → table_entries t ≡ Some (map plain (joined (joined parts)))
   unfolding table_entries
   parted_opened (Plain t) parts opened kind at same law parted =
-      absurd (not_plain h.index (tops_at table_hashes bytes h.index) (t.handles, t.filter, t.index) (sym (ap (λ r. r >>= any_by_type table_hashes bytes h) kind) ∙ opened))
+      absurd (not_plain h.index (tops_at table_hashes bytes h.index) (t.handles, t.filter, t.index) (sym (ap (λ r. r >>= any_by_kind table_hashes bytes h) kind) ∙ opened))
   parted_opened (Parted t) parts opened kind at same law parted =
-      let top : t.top ≡ h.index = same_top h.index (tops_at table_hashes bytes h.index) (t.top, t.tops) (sym (ap (λ r. r >>= any_by_type table_hashes bytes h) kind) ∙ opened) in
+      let top : t.top ≡ h.index = same_top h.index (tops_at table_hashes bytes h.index) (t.top, t.tops) (sym (ap (λ r. r >>= any_by_kind table_hashes bytes h) kind) ∙ opened) in
       law table_hashes parts t.source.inner t.top t.tops xxh3_128-below (subst IsBytes (sym same) are)
       (subst (λ bs. IsParted table_hashes parts bs t.top) (sym same) (subst (IsParted table_hashes parts bytes) (sym top) parted)) at
 

@@ -5,7 +5,7 @@ use Rattle.std.proofs.lemmas.List.{drop_all}
 use Rattle.std.specs.List.{AllByRecursion}
 use Rattle.std.specs.Option.{option_map}
 use Rattle.sstable_blocks.specs.Prelude.{Entry, plain, entries, first_match, is_version}
-use Rattle.sst_merge.specs.Merge.{entry_cmp, merge}
+use Rattle.sst_sources.specs.Merge.{entry_cmp, merge}
 
 -- what holds of all holds of the member at an index
 pub all_at : {X : Type 0} (P : X → Type 0) (xs : List X) (i : ℕ) (x : X) → AllByRecursion P xs → i < length xs → x ≡ get_or xs i x → P x

@@ -6,8 +6,8 @@ use Rattle.std.specs.List.{AllZip}
 use Rattle.std.specs.Option.{option_map, IfSome}
 use Rattle.sstable_blocks.specs.Prelude.{Entry}
 use Rattle.sstable_blocks.specs.BlockLaws.{some_is}
-use Rattle.sst_merge.specs.Merge.{entry_cmp, merged}
-use Rattle.sst_merge.specs.Sources.{Left, all_known}
+use Rattle.sst_sources.specs.Merge.{entry_cmp, merged}
+use Rattle.sst_sources.specs.Sources.{Left, all_known}
 use Rattle.sst_merge.specs.Tables.{IsTableOf as IsWrittenTable}
 use Rattle.sst_merge.specs.declared.writing.Sizes.{Sizes}
 use Rattle.sst_parts.specs.PartKinds.{parted_kind}

@@ -1,6 +1,6 @@
 //! Laws of tables, for callers' proofs. Each function states one law, and does nothing.
 ghost use Rattle.std.specs.Prelude.{◌≡◌, ◌<◌, ◌^◌, ℕ, List, Some, Ok, map};
-ghost use Rattle.sst_merge.specs.Stored.{table_list};
+ghost use Rattle.sst_sources.specs.Stored.{table_list};
 ghost use Rattle.sstable_blocks.specs.Blocks.{joined};
 ghost use Rattle.sstable_blocks.specs.declared.run.RunHandles.{RunHandles};
 ghost use Rattle.sstable_blocks.specs.Prelude.{IsBytes, Entry, plain, Handle};

@@ -3,7 +3,7 @@ ghost use Rattle.std.specs.Prelude.{◌≡◌, ◌≤◌, ◌∷◌, [], length}
 ghost use Rattle.std.specs.List.{insert};
 ghost use Rattle.std.specs.Option.{option_map};
 ghost use Rattle.sst_examples.specs.Levels.{ArePlain};
-ghost use Rattle.sst_merge.specs.Merge.{entry_cmp, merge};
+ghost use Rattle.sst_sources.specs.Merge.{entry_cmp, merge};
 ghost use Rattle.sst_merge.specs.Snapshot.{seen};
 ghost use Rattle.sstable_blocks.specs.Prelude.{entries, first_match, is_version};
 

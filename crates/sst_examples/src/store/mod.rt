@@ -6,7 +6,7 @@ ghost use Rattle.std.specs.Prelude.{true};
 ghost use Rattle.std.specs.Prelude.{IfErr, IfOk, OnOk, OnErr, ◌+◌, ◌++◌, filter, nat_eq, not};
 ghost use Rattle.sst_examples.specs.Levels.{IsFull, IsVersionWritten, read, version, versions};
 ghost use Rattle.sst_merge.specs.Compact.{IsKeptRead, compacted};
-ghost use Rattle.sst_merge.specs.Merge.{entry_cmp, merge};
+ghost use Rattle.sst_sources.specs.Merge.{entry_cmp, merge};
 ghost use Rattle.sst_merge.specs.Snapshot.{seen};
 ghost use Rattle.sstable_blocks.specs.Prelude.{plain, plain_value, entries, first_match};
 

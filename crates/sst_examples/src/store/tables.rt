@@ -3,7 +3,7 @@ ghost use Rattle.std.specs.Prelude.{◌≡◌, List, [], Some, map, IfOk, OnOk, 
 ghost use Rattle.std.specs.Option.{option_map};
 ghost use Rattle.sst_examples.specs.Tables.{HoldsEntries, IsWrittenAs, merged_tables, table_entries};
 ghost use Rattle.sst_examples.specs.Tables.{table_hashes};
-ghost use Rattle.sst_merge.specs.Sources.{before};
+ghost use Rattle.sst_sources.specs.Sources.{before};
 ghost use Rattle.sst_merge.specs.Tables.{entries_in};
 ghost use Rattle.sst_parts.specs.AnyScans.{ref_left};
 ghost use Rattle.sst_parts.specs.PartWriting.{IsPartedFile};

@@ -6,11 +6,11 @@ use Rattle.std.specs.List.{AllByRecursion}
 use Rattle.std.specs.Ordering.{is_lt}
 use Rattle.std.specs.declared.cmp.Ordering.{Ordering}
 use Rattle.sstable_blocks.specs.BlockLaws.{not_true, some_is}
-use Rattle.sst_merge.specs.Merge.{merge, merged}
-use Rattle.sst_merge.specs.MergeLaws.{merge-nil, merge-first, merge-second, all_merge}
-use Rattle.sst_merge.specs.Picks.{list_at}
+use Rattle.sst_sources.specs.Merge.{merge, merged}
+use Rattle.sst_sources.specs.MergeLaws.{merge-nil, merge-first, merge-second, all_merge}
+use Rattle.sst_sources.specs.Picks.{list_at}
 use Rattle.sst_merge.specs.Cuts.{IsItem, comes_first, IsCut, IsNext, total, fronts, rests}
-use Rattle.sst_merge.specs.ListLaws.{lt_suc}
+use Rattle.sst_sources.specs.ListLaws.{lt_suc}
 
 -- an item of a list that is cut
 all_taken : {X : Type 0} (P : X → Type 0) (xs : List X) (n : ℕ) → ((a : ℕ) (x : X) → slice_get xs a ≡ Some x → a < n → P x) → AllByRecursion P (take n xs)

@@ -10,11 +10,11 @@ use Rattle.std.specs.declared.cmp.Ordering.{Ordering}
 use Rattle.std.specs.declared.cmp.Ordering.TheVariants.{Less, Equal, Greater}
 use Rattle.sstable_blocks.specs.Prelude.{IsInOrder}
 use Rattle.sstable_blocks.specs.BlockLaws.{not_true, some_is, lt_is, not_lt, is_not_lt}
-use Rattle.sst_merge.specs.MergeReads.{ge_trans}
-use Rattle.sst_merge.specs.Merge.{merge, merged}
-use Rattle.sst_merge.specs.MergeLaws.{merge-first, merge-second}
+use Rattle.sst_sources.specs.MergeReads.{ge_trans}
+use Rattle.sst_sources.specs.Merge.{merge, merged}
+use Rattle.sst_sources.specs.MergeLaws.{merge-first, merge-second}
 use Rattle.sst_merge.proofs.Merging.CutLaws.{length-merge}
-use Rattle.sst_merge.specs.Picks.{list_at}
+use Rattle.sst_sources.specs.Picks.{list_at}
 use Rattle.sst_merge.specs.Cuts.{IsItem, comes_first, IsCut, IsNext, IsFirstList, IsLastList, total}
 use Rattle.sstable_blocks.specs.EndLaws.{tail_in_order}
 use Rattle.sstable_blocks.specs.BetweenLaws.{item_found}

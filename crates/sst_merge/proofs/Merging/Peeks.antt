@@ -4,10 +4,10 @@ use Rattle.std.proofs.lemmas.List.{get_or-map, length-map}
 use Rattle.std.specs.Prelude.{IfSome}
 use Rattle.std.specs.Option.{option_map}
 use Rattle.std.specs.declared.cmp.Ordering.{Ordering}
-use Rattle.sst_merge.specs.Merge.{merged}
-use Rattle.sst_merge.specs.Picks.{IsPick, list_at, least, least_none, least_some}
-use Rattle.sst_merge.specs.Sources.{Left, lists_left}
-use Rattle.sst_merge.specs.SourceLaws.{known_at}
+use Rattle.sst_sources.specs.Merge.{merged}
+use Rattle.sst_sources.specs.Picks.{IsPick, list_at, least, least_none, least_some}
+use Rattle.sst_sources.specs.Sources.{Left, lists_left}
+use Rattle.sst_sources.specs.SourceLaws.{known_at}
 
 module _ {X : Type 0} (cmp : X → X → Ordering) where
   first_of : (xss : List (List X)) (l : List X) → list_at xss (least cmp xss) ≡ l → slice_get l 0 ≡ slice_get (merged cmp xss) 0

@@ -8,12 +8,12 @@ use Rattle.std.specs.Ordering.{is_lt, ordering_reverse}
 use Rattle.std.specs.declared.cmp.Ordering.{Ordering}
 use Rattle.std.specs.declared.cmp.Ordering.TheVariants.{Less, Equal, Greater}
 use Rattle.sstable_blocks.specs.BlockLaws.{not_true, not_false, not_lt, is_not_lt}
-use Rattle.sst_merge.specs.MergeReads.{ge_trans}
-use Rattle.sst_merge.specs.Picks.{IsPick, goes, least, list_at, wins, wins_nil}
-use Rattle.sst_merge.specs.Sources.{Left, lists_left}
-use Rattle.sst_merge.specs.SourceLaws.{known_at, lists_length}
+use Rattle.sst_sources.specs.MergeReads.{ge_trans}
+use Rattle.sst_sources.specs.Picks.{IsPick, goes, least, list_at, wins, wins_nil}
+use Rattle.sst_sources.specs.Sources.{Left, lists_left}
+use Rattle.sst_sources.specs.SourceLaws.{known_at, lists_length}
 use Rattle.sst_merge.specs.Tournament.{AreWinners, IsOnWay, IsFirstOf, IsTournament, Leads, halved, known_list}
-use Rattle.sst_merge.specs.ListLaws.{lt_suc}
+use Rattle.sst_sources.specs.ListLaws.{lt_suc}
 
 module _ {X : Type 0} (cmp : X → X → Ordering) (order : IsTotalOrder cmp) where
   turned : (x y : X) (o : Ordering) → cmp x y ≡ o → is_lt o ≡ true → not (is_lt (cmp y x)) ≡ true

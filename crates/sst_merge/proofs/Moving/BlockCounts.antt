@@ -8,7 +8,7 @@ use Rattle.std.specs.Ordering.{nat_cmp}
 use Rattle.sstable_blocks.specs.Prelude.{Entry, entries, IsOrdered, passes, count_passed}
 use Rattle.sstable_blocks.specs.BlockLaws.{versions_cmp_total, some_is}
 use Rattle.sstable_blocks.specs.Blocks.{IsNotEmpty, joined}
-use Rattle.sst_merge.specs.Merge.{entry_cmp}
+use Rattle.sst_sources.specs.Merge.{entry_cmp}
 use Rattle.sst_merge.specs.Movable.{is_sought, item_before}
 use Rattle.sst_merge.specs.MovableBlocks.{AreEntryBlocks, entry_key, entries_before, is_last_sought, is_block_sought}
 use Rattle.sstable_blocks.specs.JoinedLaws.{before_none}

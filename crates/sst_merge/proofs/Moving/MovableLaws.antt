@@ -14,8 +14,8 @@ use Rattle.std.specs.declared.cmp.Ordering.{Ordering}
 use Rattle.std.specs.declared.cmp.Ordering.TheVariants.{Less, Equal, Greater}
 use Rattle.sstable_blocks.specs.Prelude.{IsInOrder, Window, whole, first_left, last_left, some_left, next, next_back, Answer, item}
 use Rattle.sstable_blocks.specs.BlockLaws.{not_true, not_false, some_is, item_same}
-use Rattle.sst_merge.specs.Merge.{merged}
-use Rattle.sst_merge.specs.Picks.{list_at}
+use Rattle.sst_sources.specs.Merge.{merged}
+use Rattle.sst_sources.specs.Picks.{list_at}
 use Rattle.sst_merge.specs.Cuts.{IsItem, comes_first, IsCut, IsNext, total}
 use Rattle.sst_merge.proofs.Merging.CutLaws.{item_between}
 use Rattle.sst_merge.proofs.Merging.CutSteps.{cut_forth, cut_back, all_before, none_first, none_last, total_same, total_le, total_lt, total_next, cut_none, cut_all, total_none, total_all, cut_by, count_merged, Separates, lt_ge, ge_lt, ge_ge, weakly, not_itself}

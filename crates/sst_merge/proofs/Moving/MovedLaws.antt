@@ -12,10 +12,10 @@ use Rattle.std.specs.declared.cmp.Ordering.{Ordering}
 use Rattle.sstable_blocks.specs.Prelude.{found_item, Window, whole, some_left, first_left, last_left, next, next_back, Step, item}
 use Rattle.sstable_blocks.specs.Results.{Error}
 use Rattle.sstable_blocks.specs.BlockLaws.{item_same}
-use Rattle.sst_merge.specs.ErrorLaws.{met_under, one_of_all}
+use Rattle.sst_sources.specs.ErrorLaws.{met_under, one_of_all}
 use Rattle.sst_merge.specs.Movable.{AreMoved, IsBackAmong, IsBackPick, IsFresh, IsFrontAmong, IsFrontPick, TakesBack, TakesFront, changed_until, goes_after, goes_before, item_before, merged_window}
 use Rattle.sst_merge.specs.Moved.{AsksAtMost, IsFreshSource, IsSought, IsStep, MayStop, Moved, all_some, are_known, but_reads, merged_moved, moved_errors, sought, step_back, step_front, unless_ended, window_or_empty, windows}
-use Rattle.sst_merge.specs.Sources.{errors_of}
+use Rattle.sst_sources.specs.Sources.{errors_of}
 use Rattle.sst_merge.proofs.Moving.MovableLaws.{back_done, back_empty, back_ends, back_is, back_kept, back_start, back_turn, changed_next, first_is, front_done, front_start, front_turn, last_is, not_changed, next_empty, next_ends, next_is, next_kept}
 
 module _ {X : Type 0} where

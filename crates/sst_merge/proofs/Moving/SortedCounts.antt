@@ -7,7 +7,7 @@ use Rattle.std.specs.List.{count_by}
 use Rattle.sstable_blocks.specs.Prelude.{Entry, entries, IsOrdered}
 use Rattle.sstable_blocks.specs.BlockLaws.{versions_cmp_total}
 use Rattle.sst_merge.specs.KeyedLaws.{entry_by_key}
-use Rattle.sst_merge.specs.Merge.{entry_cmp}
+use Rattle.sst_sources.specs.Merge.{entry_cmp}
 use Rattle.sst_merge.specs.Movable.{is_sought}
 use Rattle.sst_merge.proofs.Merging.CutSteps.{Separates, passes_before, fails_after}
 use Rattle.sst_merge.proofs.Moving.MovableLaws.{below_apart, most_apart}

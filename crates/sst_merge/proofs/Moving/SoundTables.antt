@@ -16,9 +16,9 @@ use Rattle.sstable_blocks.specs.RunReading.{Hashes, handles_at, payload_at}
 use Rattle.sstable_blocks.specs.Sound.{IsSound, IsStoredBlock}
 use Rattle.sstable_blocks.specs.SoundReadLaws.{bind_to, index_of_sound, stored_is_read}
 use Rattle.sstable_blocks.specs.declared.run.RunHandles.{RunHandles}
-use Rattle.sst_merge.specs.Merge.{entry_cmp}
+use Rattle.sst_sources.specs.Merge.{entry_cmp}
 use Rattle.sst_merge.specs.Movable.{item_before}
-use Rattle.sst_merge.specs.TableReads.{order_passes}
+use Rattle.sst_sources.specs.TableReads.{order_passes}
 use Rattle.sst_merge.specs.MovableTables.{block_reads, ends_with, errors_in, fit_blocks, have_ends, read_blocks, table_blocks, table_errors, with_block}
 
 -- the last entry of a block, as decoded

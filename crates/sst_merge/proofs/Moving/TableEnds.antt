@@ -19,16 +19,16 @@ use Rattle.sstable_blocks.specs.Opened.{range_of}
 use Rattle.sstable_blocks.specs.RunReading.{Hashes, block_items_at}
 use Rattle.sstable_blocks.specs.Sources.{FailsAs}
 use Rattle.sstable_blocks.specs.Tables.{TableParts}
-use Rattle.sst_merge.specs.FailureLaws.{is_memory, reports_itself, source_met}
-use Rattle.sst_merge.specs.Merge.{entry_cmp}
-use Rattle.sst_merge.specs.ErrorLaws.{among_left, among_right}
+use Rattle.sst_sources.specs.FailureLaws.{is_memory, reports_itself, source_met}
+use Rattle.sst_sources.specs.Merge.{entry_cmp}
+use Rattle.sst_sources.specs.ErrorLaws.{among_left, among_right}
 use Rattle.sst_merge.specs.Movable.{IsFresh, is_sought, item_before}
 use Rattle.sst_merge.specs.MovableBlocks.{AreEntryBlocks, HoldsBack, HoldsFront, IsBackIn, IsFrontIn, TakesFirstOf, TakesLastOf, back_place, entries_before, entry_key, front_place, is_block_sought, is_last_sought, window_of}
 use Rattle.sst_merge.specs.MovableTables.{AnyStepFails, AreTableEnds, GoesBack, GoesForth, IsBackAt, IsFrontAt, IsWholeBlock, KeepsTable, OfBlocks, TableEnd, block_reads, end_in, end_of, ends_with, errors_in, fit_blocks, have_ends, later_starts, read_blocks, search_from, table_blocks, table_errors, table_moved, with_block}
 use Rattle.sst_merge.specs.Moved.{Moved, unless_ended}
-use Rattle.sst_merge.specs.Sources.{IsAmong}
-use Rattle.sst_merge.specs.Stored.{MayFailAnyTime, reported}
-use Rattle.sst_merge.specs.TableReads.{passes_ordered}
+use Rattle.sst_sources.specs.Sources.{IsAmong}
+use Rattle.sst_sources.specs.Stored.{MayFailAnyTime, reported}
+use Rattle.sst_sources.specs.TableReads.{passes_ordered}
 use Rattle.sst_merge.proofs.Moving.BlockEnds.{back_at, back_before, back_block, back_ends, back_held, back_item, back_more, back_none, drop_zero, front_at, front_ends, front_held, front_item, front_more, front_none, left_from, left_later, left_up_to, left_same, none_at_end, none_earlier, none_same, some_in}
 use Rattle.sst_merge.proofs.Moving.BlockCounts.{stops}
 use Rattle.sstable_blocks.specs.JoinedLaws.{before_none}

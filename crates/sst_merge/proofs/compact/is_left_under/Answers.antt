@@ -1,11 +1,11 @@
+use Rattle.sst_sources.specs.ErrorLaws.{gives_more}
 use Rattle.std.proofs.Common.{◌≡◌, ◌∷◌, ◌∙◌, Some, true, ap, sym, arith, rules}
 use Rattle.std.proofs.lemmas.Result.{err_from_is_err_and}
 use Rattle.std.specs.Option.{option_map}
 use Rattle.sst_merge.specs.Compact.{compact_from, is_hidden, is_seen}
 use Rattle.sst_merge.specs.CompactLaws.{repeated}
-use Rattle.sst_merge.specs.Sources.{list_held, most_held, with_held}
+use Rattle.sst_sources.specs.Sources.{list_held, most_held, with_held}
 use Rattle.sst_merge.specs.StepLaws.{mapped_step}
-use Rattle.sst_merge.specs.WriteLaws.{gives_more}
 use Rattle.sst_merge.proofs.compact.is_left_under.Goals as goal
 
 pub returns-in_err-item-clause-cause : goal.returns-in_err-item-clause-cause

@@ -1,10 +1,10 @@
+use Rattle.sst_sources.specs.ErrorLaws.{gives_more}
 use Rattle.std.proofs.Common.{◌≡◌, ◌∙◌, true, false, sym, arith, rules}
 use Rattle.std.proofs.lemmas.Result.{err_from_is_err_and}
 use Rattle.sstable_blocks.specs.Results.{Error}
 use Rattle.sst_merge.specs.Compact.{is_hidden, is_seen}
-use Rattle.sst_merge.specs.Sources.{MayMeet, with_held}
+use Rattle.sst_sources.specs.Sources.{MayMeet, with_held}
 use Rattle.sst_merge.specs.StepLaws.{fresh_step}
-use Rattle.sst_merge.specs.WriteLaws.{gives_more}
 use Rattle.sst_merge.proofs.compact.next_staying.Goals as goal
 
 pub returns-in-Err-clause-cause : goal.returns-in-Err-clause-cause

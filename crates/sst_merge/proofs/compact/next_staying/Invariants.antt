@@ -1,7 +1,7 @@
 use Rattle.std.proofs.Common.{◌≡◌, ◌≤◌}
 use Rattle.std.specs.Option.{option_map}
 use Rattle.sst_merge.specs.Compact.{compact_from}
-use Rattle.sst_merge.specs.Sources.{MeetsNoMore, with_held}
+use Rattle.sst_sources.specs.Sources.{MeetsNoMore, with_held}
 use Rattle.sst_merge.proofs.compact.next_staying.Given as goal
 
 abbrev pub invariant-loop-item : goal.invariant-loop-item

@@ -5,7 +5,7 @@ use Rattle.sst_merge.specs.MappedLaws.{after_entries, none_entries}
 use Rattle.sst_merge.specs.Outputs.{AreWritten, MayFail, Output, entries_of}
 use Rattle.std.proofs.lemmas.Result.{err_from_is_err_and}
 use Rattle.sst_merge.specs.WriteLaws.{not_all}
-use Rattle.sst_merge.specs.SourceLaws.{same_end}
+use Rattle.sst_sources.specs.SourceLaws.{same_end}
 use Rattle.sst_merge.specs.TableLaws.{none_left}
 use Rattle.sst_merge.specs.Tables.{IsTableOf, entries_in}
 use Rattle.sst_merge.proofs.compaction.all_tables.Goals as goal

@@ -1,6 +1,6 @@
 use Rattle.std.proofs.Common.{◌≡◌}
 use Rattle.sst_merge.specs.Outputs.{AreWritten}
-use Rattle.sst_merge.specs.Sources.{MeetsNoMore}
+use Rattle.sst_sources.specs.Sources.{MeetsNoMore}
 use Rattle.sst_merge.specs.Tables.{entries_in}
 use Rattle.sst_merge.proofs.compaction.all_tables.Given as goal
 

@@ -1,4 +1,4 @@
-use Rattle.sst_merge.specs.StoredLaws.{known_all}
+use Rattle.sst_sources.specs.StoredLaws.{known_all}
 use Rattle.sst_merge.proofs.laws.scan_is_known.Goals as goal
 
 pub returns : goal.returns

@@ -1,8 +1,8 @@
 use Rattle.std.proofs.Common.{◌≡◌, ℕ, ◌<◌, List, map, take, drop, Some, None}
 use Rattle.sstable_blocks.specs.Prelude.{CountsBetween, Entry, entries, first_match}
 use Rattle.sst_merge.specs.Counts.{most_of}
-use Rattle.sst_merge.specs.Picks.{list_at}
-use Rattle.sst_merge.specs.Sources.{all_known}
+use Rattle.sst_sources.specs.Picks.{list_at}
+use Rattle.sst_sources.specs.Sources.{all_known}
 use Rattle.sst_merge.proofs.reader.read_levels.Given as goal
 
 abbrev pub invariant-loop-i : goal.invariant-loop-i

@@ -5,7 +5,7 @@ use Rattle.std.proofs.lemmas.List.{length-set}
 use Rattle.sstable_blocks.specs.Prelude.{CountsBetween, entries, first_match}
 use Rattle.sst_merge.specs.CountLaws.{count_more, front_same, none_counted, within_all}
 use Rattle.sst_merge.specs.ReaderLaws.{matches, none_read, one_fails, read_more, kept_more, read_is_merge}
-use Rattle.sst_merge.specs.Sources.{all_known}
+use Rattle.sst_sources.specs.Sources.{all_known}
 use Rattle.sst_merge.proofs.reader.read_tables.Goals as goal
 
 pub loop-i-init : goal.loop-i-init

@@ -1,8 +1,8 @@
 use Rattle.std.proofs.Common.{◌≡◌, ℕ, ◌<◌, ◌≤◌, List, length, map, drop, get_or, Some}
 use Rattle.sstable_blocks.specs.Prelude.{CountsBetween, Entry, entries, first_match}
 use Rattle.sst_merge.specs.Counts.{most_of}
-use Rattle.sst_merge.specs.Merge.{entry_cmp, least_match}
-use Rattle.sst_merge.specs.Sources.{all_known}
+use Rattle.sst_sources.specs.Merge.{entry_cmp, least_match}
+use Rattle.sst_sources.specs.Sources.{all_known}
 use Rattle.sst_merge.proofs.reader.read_tables.Given as goal
 
 abbrev pub invariant-loop-i : goal.invariant-loop-i

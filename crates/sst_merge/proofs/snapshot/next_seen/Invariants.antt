@@ -1,7 +1,7 @@
 use Rattle.std.proofs.Common.{◌≡◌, ◌≤◌}
 use Rattle.std.specs.Option.{option_map}
 use Rattle.sst_merge.specs.Snapshot.{visible_from}
-use Rattle.sst_merge.specs.Sources.{MeetsNoMore}
+use Rattle.sst_sources.specs.Sources.{MeetsNoMore}
 use Rattle.sst_merge.proofs.snapshot.next_seen.Given as goal
 
 abbrev pub invariant-loop-item : goal.invariant-loop-item

@@ -1,14 +1,14 @@
+use Rattle.sst_sources.specs.ErrorLaws.{gives_more}
 use Rattle.std.proofs.Common.{◌≡◌, ◌%◌, ◌∷◌, [], ◌++◌, Some, length, length-append, map, subst, sym, ap, ◌∙◌, inl, inr, arith}
 use Rattle.std.specs.Option.{IfSome}
 use Rattle.sstable_blocks.specs.Prelude.{item_form, entries}
 use Rattle.sst_merge.specs.MappedLaws.{none_entries}
-use Rattle.sst_merge.specs.WriteLaws.{gives_more}
 use Rattle.std.proofs.lemmas.List.{length-map, map-append}
 use Rattle.std.proofs.lemmas.Bool.Decides.{nat_tests}
 use Rattle.std.proofs.lemmas.Grind.{common_steps}
 use Rattle.sst_merge.specs.SizeLaws.{below_more, len_more}
-use Rattle.sst_merge.specs.SourceLaws.{same_end}
-use Rattle.sst_merge.specs.Sources.{IsTaken}
+use Rattle.sst_sources.specs.SourceLaws.{same_end}
+use Rattle.sst_sources.specs.Sources.{IsTaken}
 use Rattle.sst_merge.specs.TableLaws.{taken_both}
 use Rattle.sst_merge.proofs.writing.fill_block.Goals as goal
 use Rattle.sst_merge.proofs.writing.fill_block.Goals.{then-is_empty, else-is_empty+then-len-size}

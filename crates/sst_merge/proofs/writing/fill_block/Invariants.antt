@@ -1,6 +1,6 @@
 use Rattle.std.proofs.Common.{◌≡◌, ◌+◌, ◌%◌, ◌<◌, ◌≤◌, length, map}
 use Rattle.sst_merge.specs.SizeLaws.{IsBelow}
-use Rattle.sst_merge.specs.Sources.{IsTaken, MeetsNoMore}
+use Rattle.sst_sources.specs.Sources.{IsTaken, MeetsNoMore}
 use Rattle.sst_merge.specs.Tables.{capped, block_len}
 use Rattle.sst_merge.proofs.writing.fill_block.Given as goal
 

@@ -6,7 +6,7 @@ use Rattle.std.specs.Option.{IfSome}
 use Rattle.sstable_blocks.specs.Prelude.{Entry}
 use Rattle.sstable_blocks.specs.Blocks.{joined}
 use Rattle.sst_merge.specs.SizeLaws.{filled_more, joined_some, len_block, one_shortest, reaches_by, shortest_block, some_first}
-use Rattle.sst_merge.specs.Sources.{IsTaken}
+use Rattle.sst_sources.specs.Sources.{IsTaken}
 use Rattle.sstable_blocks.specs.TableKinds.{SoFar}
 use Rattle.sst_merge.specs.TableLaws.{apart_blocks, taken_block, taken_none, some_push, none_left}
 use Rattle.sst_merge.specs.WriteLaws.{entries_taken, not_added}

@@ -3,7 +3,7 @@ use Rattle.std.specs.List.{AllByRecursion}
 use Rattle.std.specs.Option.{IfSome}
 use Rattle.sstable_blocks.specs.Prelude.{Entry}
 use Rattle.sstable_blocks.specs.Blocks.{joined}
-use Rattle.sst_merge.specs.Sources.{IsTaken, MeetsNoMore}
+use Rattle.sst_sources.specs.Sources.{IsTaken, MeetsNoMore}
 use Rattle.sst_merge.specs.Tables.{IsFilled, IsShortest, blocks_len, capped, entries_in}
 use Rattle.sst_merge.proofs.writing.next_table.Given as goal
 

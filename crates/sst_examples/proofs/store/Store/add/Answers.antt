@@ -1,7 +1,7 @@
 use Rattle.std.proofs.Common.{◌≡◌, ◌∷◌, [], Some, ◌∙◌, ap, sym, subst, List, ℕ}
 use Rattle.std.specs.List.{insert}
 use Rattle.sstable_blocks.specs.Prelude.{Entry}
-use Rattle.sst_merge.specs.Merge.{entry_cmp, merge}
+use Rattle.sst_sources.specs.Merge.{entry_cmp, merge}
 use Rattle.sst_merge.specs.Snapshot.{seen}
 use Rattle.sst_examples.proofs.Leveled.Levels.{version_added}
 use Rattle.sst_examples.proofs.store.Store.add.Goals as goal

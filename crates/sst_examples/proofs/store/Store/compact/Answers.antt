@@ -3,7 +3,7 @@ use Rattle.std.specs.Option.{option_map}
 use Rattle.sstable_blocks.specs.Prelude.{Entry, plain}
 use Rattle.sst_merge.specs.Compact.{IsKeptRead, compacted}
 use Rattle.sst_merge.specs.MappedLaws.{entries_themselves}
-use Rattle.sst_merge.specs.Sources.{Left, before, left_as}
+use Rattle.sst_sources.specs.Sources.{Left, before, left_as}
 use Rattle.sst_examples.proofs.Leveled.Levels.{compacted_left, compacted_same, level_compacted}
 use Rattle.sst_examples.proofs.store.Store.compact.Goals as goal
 use Rattle.sst_examples.specs.Levels.{AreLevels, Levels, levels, or_none, read}

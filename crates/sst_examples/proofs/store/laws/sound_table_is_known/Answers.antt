@@ -1,4 +1,4 @@
-use Rattle.sst_merge.specs.Stored.{all_keys}
+use Rattle.sst_sources.specs.Stored.{all_keys}
 use Rattle.sst_examples.proofs.Stored.Listed.{sound_listed}
 use Rattle.sst_examples.proofs.store.laws.sound_table_is_known.Goals as goal
 use Rattle.sstable_blocks.specs.RunChecks.{summary_of}

@@ -1,5 +1,5 @@
 use Rattle.std.proofs.Common.{◌≡◌, ◌∷◌, []}
-use Rattle.sst_merge.specs.Merge.{entry_cmp, merge}
+use Rattle.sst_sources.specs.Merge.{entry_cmp, merge}
 use Rattle.sst_examples.proofs.Stored.Places.{placed}
 use Rattle.sst_examples.proofs.store.memory.place_of.Given as goal
 

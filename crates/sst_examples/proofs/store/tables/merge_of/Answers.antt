@@ -1,6 +1,6 @@
 use Rattle.std.proofs.Common.{◌+◌, ◌∙◌, ap, sym, arith}
 use Rattle.sstable_blocks.specs.Prelude.{Entry}
-use Rattle.sst_merge.specs.Sources.{Left}
+use Rattle.sst_sources.specs.Sources.{Left}
 use Rattle.sst_examples.proofs.Stored.Listed.{each_known}
 use Rattle.sst_examples.proofs.Stored.Written.{lists_all, lists_more}
 use Rattle.sst_examples.proofs.store.tables.merge_of.Goals as goal

@@ -1,6 +1,6 @@
 use Rattle.sst_merge.specs.Compact.{compact_from}
-use Rattle.sst_merge.specs.ErrorLaws.{as_no_more}
-use Rattle.sst_merge.specs.Sources.{with_held}
+use Rattle.sst_sources.specs.ErrorLaws.{as_no_more}
+use Rattle.sst_sources.specs.Sources.{with_held}
 use Rattle.sst_merge.proofs.compact.CompactSource.next_entry.Goals as goal
 
 pub returns-clause-no_more : goal.returns-clause-no_more

@@ -1,8 +1,8 @@
 use Rattle.std.proofs.Common.{◌+◌, ◌/◌, ◌∙◌, ap, subst, sym}
-use Rattle.sst_merge.specs.ErrorLaws.{merge_gives, merge_no_more}
-use Rattle.sst_merge.specs.Picks.{IsPick}
-use Rattle.sst_merge.specs.Sources.{MayGive}
-use Rattle.sst_merge.specs.SourceLaws.{passed_merge}
+use Rattle.sst_sources.specs.ErrorLaws.{merge_gives, merge_no_more}
+use Rattle.sst_sources.specs.Picks.{IsPick}
+use Rattle.sst_sources.specs.Sources.{MayGive}
+use Rattle.sst_sources.specs.SourceLaws.{passed_merge}
 use Rattle.sst_merge.specs.Tournament.{IsTournament}
 use Rattle.sst_merge.proofs.Merging.Tournaments.{still_tournament}
 use Rattle.sst_merge.proofs.merge.Merge.advance.Goals as goal

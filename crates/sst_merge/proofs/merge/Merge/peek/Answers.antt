@@ -1,7 +1,7 @@
 use Rattle.std.proofs.Common.{◌≡◌, refl, subst, slice_get}
 use Rattle.std.specs.Prelude.{IfSome}
 use Rattle.std.specs.Option.{option_map}
-use Rattle.sst_merge.specs.Picks.{IsPick}
+use Rattle.sst_sources.specs.Picks.{IsPick}
 use Rattle.sst_merge.proofs.Merging.Peeks.{peeked}
 use Rattle.sst_merge.proofs.merge.Merge.peek.Goals as goal
 

@@ -1,4 +1,4 @@
-use Rattle.sst_merge.specs.RangeLaws.{ranged_whole}
+use Rattle.sst_sources.specs.RangeLaws.{ranged_whole}
 use Rattle.sst_merge.proofs.ranged.Ranged.new.Goals as goal
 
 pub returns-clause-whole : goal.returns-clause-whole

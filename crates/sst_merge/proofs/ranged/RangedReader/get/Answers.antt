@@ -1,5 +1,5 @@
 use Rattle.std.proofs.Common.{◌≡◌, ◌∙◌, sym, IfOk}
-use Rattle.sst_merge.specs.RangeLaws.{found_inside, none_outside}
+use Rattle.sst_sources.specs.RangeLaws.{found_inside, none_outside}
 use Rattle.sst_merge.proofs.ranged.RangedReader.get.Goals as goal
 
 pub returns-then-covers-clause-found : goal.returns-then-covers-clause-found

@@ -1,5 +1,5 @@
 use Rattle.sst_merge.specs.Snapshot.{visible_from}
-use Rattle.sst_merge.specs.ErrorLaws.{as_no_more}
+use Rattle.sst_sources.specs.ErrorLaws.{as_no_more}
 use Rattle.sst_merge.proofs.snapshot.SnapshotSource.next_entry.Goals as goal
 
 pub returns-clause-no_more : goal.returns-clause-no_more

@@ -1,6 +1,0 @@
-use Rattle.std.proofs.Common.{take}
-use Rattle.sst_c.specs.Given.{AreGiven}
-use Rattle.sst_c.proofs.entries.items_of.Given as goal
-
-abbrev pub invariant-loop-entry : goal.invariant-loop-entry
-invariant-loop-entry l = AreGiven (take l.entry-index l.entries) l.items.items

@@ -1,0 +1,25 @@
+-- Lists of entries, as a caller lends them.
+pub mod Givens
+pub mod Places
+pub mod Listings
+pub mod BlockLists
+pub mod BlockWindows
+pub mod Listed
+pub mod Passing
+pub mod RunBlockLists
+pub mod KeyPlaces
+pub mod Fronts
+pub mod Reversed
+pub mod OneBlock
+pub mod RunEnds
+pub mod RunHashes
+pub mod CheckEnds
+pub mod Compacting
+pub mod PlacedLists
+pub mod Walks
+pub mod MergedLists
+pub mod Merges
+pub mod MergeHeads
+pub mod MergeShown
+pub mod MergeOrder
+pub mod OneStep

@@ -1,0 +1,17 @@
+pub mod ListLaws
+pub mod ErrorLaws
+pub mod FailureLaws
+pub mod Flips
+pub mod Fronts
+pub mod FrontLaws
+pub mod Merge
+pub mod MergeLaws
+pub mod MergeReads
+pub mod Picks
+pub mod Ranges
+pub mod RangeLaws
+pub mod Sources
+pub mod Stored
+pub mod StoredLaws
+pub mod TableReads
+pub mod SourceLaws
