@@ -2,17 +2,13 @@
 its items: `entries` or `handles`."""
 
 import entries
-import handles
+from texts import Refused
 
 END_MARKER = 0xFF
 FREE, CONFLICT = 0xFE, 0xFF
 MOST_HEADS_HASHED = 254
 TRAILER = 31
 FIXED = bytes([1, 0, 0, 0, 0, 0, 0, 0, 0])
-
-
-class Refused(Exception):
-    """The error of the first stage that fails. Its text is the name."""
 
 
 def little(number, count):
@@ -90,9 +86,6 @@ class Encoded:
         trailer += FIXED + little(len(self.items), 4)
         return self.body + bytes([END_MARKER]) + pointers + self.buckets + trailer
 
-    def conflicts(self):
-        """Returns how many buckets have a conflict."""
-        return self.buckets.count(CONFLICT)
 
 
 class Trailer:
@@ -108,6 +101,10 @@ class Trailer:
         self.buckets, self.hashed = number(10), number(14)
         self.fixed, self.count = trailer[18:27], number(27)
         self.end = len(payload) - TRAILER
+
+    def conflicts(self, payload):
+        """Returns how many buckets of the payload have a conflict."""
+        return payload[self.hashed : self.hashed + self.buckets].count(CONFLICT)
 
     def has_fields(self):
         """Returns whether the numbers agree with each other."""
@@ -170,6 +167,3 @@ def check(kind, payload, hash64):
             raise Refused("BadHashIndex")
     return items, trailer
 
-
-# The kinds by their names in commands.
-KINDS = {"data": entries, "index": handles}

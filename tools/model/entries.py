@@ -5,7 +5,6 @@ from words import bad_word, bytes_of, hex_of, number_of
 
 LETTERS = {"V": 0, "T": 1, "W": 2, "I": 4}
 TYPES = {number: letter for letter, number in LETTERS.items()}
-NAMES = {"V": "Value", "T": "Tombstone", "W": "WeakTombstone", "I": "Indirection"}
 TOMBSTONES = "TW"
 
 MOST_KEY = 65535
@@ -28,19 +27,13 @@ class Entry:
         return f"{self.letter}.{self.seqno}.{hex_of(self.key)}.{hex_of(value)}"
 
 
-def parts_of(word):
-    """Returns the parts of a word of an entry: letter, sequence number, key and value, joined by
-    dots."""
+def entry_of(word):
+    """Returns the entry that a word encodes: letter, sequence number, key and value, joined by dots."""
     parts = word.split(".")
     if len(parts) != 4 or parts[0] not in LETTERS:
         raise bad_word()
     letter, seqno, key, value = parts
-    return Entry(letter, number_of(seqno), bytes_of(key), bytes_of(value))
-
-
-def entry_of(word):
-    """Returns the entry that a word encodes."""
-    entry = parts_of(word)
+    entry = Entry(letter, number_of(seqno), bytes_of(key), bytes_of(value))
     if not 1 <= len(entry.key) <= MOST_KEY or len(entry.value) > MOST_VALUE:
         raise bad_word()
     return entry

@@ -1,7 +1,8 @@
 """Bloom filters (docs/FORMAT.md, "Filter")."""
 
-from blocks import Refused, little
+from blocks import little
 from frames import MAGIC, number_at
+from texts import Refused
 
 FRONT = 22
 MOST_BITS = 34359737920
@@ -60,11 +61,9 @@ class Filter:
         if len(data) < FRONT:
             raise Refused("Truncated")
         if data[:4] != MAGIC:
-            raise Refused("InvalidHeader(BloomFilter)")
-        if data[4] != 0:
-            raise Refused(f"InvalidTag(FilterType, {data[4]})")
-        if data[5] != 0:
-            raise Refused(f"InvalidTag(HashType, {data[5]})")
+            raise Refused("InvalidHeader")
+        if data[4] != 0 or data[5] != 0:
+            raise Refused("InvalidTag")
         self.bits, self.count = number_at(data, 6, 8), number_at(data, 14, 8)
         self.data = data[FRONT:]
         if self.bits != 8 * len(self.data) or not 1 <= self.count <= self.bits:

@@ -1,6 +1,7 @@
-"""Frames: a header of 33 bytes and a payload; and lone handles (docs/FORMAT.md, "Frame")."""
+"""Frames: a header of 33 bytes and a payload (docs/FORMAT.md, "Frame")."""
 
-from blocks import Refused, little
+from blocks import little
+from texts import Refused
 
 MAGIC = bytes.fromhex("4c534d03")
 HEADER = 33
@@ -13,12 +14,6 @@ TYPES = ["Data", "Index", "Filter", "Meta"]
 def number_at(data, at, count):
     """Returns the number of some bytes at an offset, least significant first."""
     return int.from_bytes(data[at : at + count], "little")
-
-
-def mismatch(got, expected):
-    """Returns the refusal of a checksum."""
-    got, expected = f"Checksum({got})", f"Checksum({expected})"
-    return Refused(f"ChecksumMismatch {{ got: {got}, expected: {expected} }}")
 
 
 def frame_of(hashing, block_type, payload):
@@ -40,40 +35,20 @@ class Header:
 
 
 def read_header(hashing, data):
-    """Returns the header at the start of an input, which is judged in the order of its bytes."""
-    if len(data) < 4:
-        raise Refused("Io")
+    """Returns the header at the start of bytes, which is judged in the order of its bytes."""
     if data[:4] != MAGIC:
-        raise Refused("InvalidHeader(Block)")
-    if len(data) < 5:
-        raise Refused("Io")
+        raise Refused("InvalidHeader")
     if data[4] >= len(TYPES):
-        raise Refused(f"InvalidTag(BlockType, {data[4]})")
-    if len(data) < HEADER:
-        raise Refused("Io")
-    got, expected = hashing.hash128(data[:29]) % 2**32, number_at(data, 29, 4)
-    if got != expected:
-        raise mismatch(got, expected)
+        raise Refused("InvalidTag")
+    if hashing.hash128(data[:29]) % 2**32 != number_at(data, 29, 4):
+        raise Refused("ChecksumMismatch")
     return Header(data)
 
 
 def judge_payload(hashing, header, payload):
     """Refuses a payload that has another checksum than its header says."""
-    got = hashing.hash128(payload)
-    if got != header.checksum:
-        raise mismatch(got, header.checksum)
-
-
-def read_stream(hashing, data):
-    """Returns the header and the payload of the frame at the start of an input."""
-    header = read_header(hashing, data)
-    if header.length != header.uncompressed:
-        raise Refused("LengthMismatch")
-    end = HEADER + header.length
-    if len(data) < end:
-        raise Refused("Io")
-    judge_payload(hashing, header, data[HEADER:end])
-    return header, data[HEADER:end]
+    if hashing.hash128(payload) != header.checksum:
+        raise Refused("ChecksumMismatch")
 
 
 def read_whole(hashing, data):
@@ -102,9 +77,14 @@ def read_from(data, offset, size):
 
 
 def in_file(data, offset, size):
-    """Returns the bytes of a file that a handle of a source of frames names."""
+    """Returns the bytes that a handle names in a file of the system, where no seek reaches an offset of
+    2^63 or more."""
     if offset + size >= 2**64:
         raise Refused("BadHandle")
+    if offset >= 2**63:
+        raise Refused("Io")
+    if size == 0 and offset > len(data):
+        raise Refused("Truncated")
     return read_from(data, offset, size)
 
 
@@ -116,27 +96,3 @@ def mended(hashing, data, which):
     checksum = little(hashing.hash128(data[:29]) % 2**32, 4)
     data[29:33] = checksum[: max(len(data) - 29, 0)]
     return bytes(data)
-
-
-def read_number(data, at, most, top):
-    """Returns the varint at an offset of a lone handle and the offset after it: of at most `most`
-    bytes, the last of these at most `top`."""
-    number = 0
-    for place in range(most):
-        if at + place >= len(data):
-            break
-        byte = data[at + place]
-        is_wide = place == most - 1 and byte > top
-        if is_wide or byte == 0 and place > 0:
-            raise Refused("BadHandle")
-        number += byte % 128 * 128**place
-        if byte < 128:
-            return number, at + place + 1
-    raise Refused("Io")
-
-
-def read_handle(data):
-    """Returns the lone handle at the start of bytes: offset, size and the offset after it."""
-    offset, at = read_number(data, 0, 10, 1)
-    size, at = read_number(data, at, 5, 15)
-    return offset, size, at

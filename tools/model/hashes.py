@@ -1,34 +1,6 @@
-"""Hash functions: the sum of the bytes, none, the polynomial `Poly31` of docs/FORMAT.md, and XXH3."""
+"""Hash functions: the polynomial `Poly31` of docs/FORMAT.md, and XXH3."""
 
 import xxh3
-
-
-class ByteSum:
-    """The sum of the bytes."""
-
-    @staticmethod
-    def hash64(data):
-        """Returns the hash of 64 bits."""
-        return sum(data) % 2**64
-
-    @staticmethod
-    def hash128(data):
-        """Returns the hash of 128 bits."""
-        return sum(data) % 2**128
-
-
-class Zero:
-    """The hash of each byte string is 0."""
-
-    @staticmethod
-    def hash64(data):
-        """Returns the hash of 64 bits."""
-        return 0
-
-    @staticmethod
-    def hash128(data):
-        """Returns the hash of 128 bits."""
-        return 0
 
 
 class Poly31:
@@ -61,9 +33,15 @@ class Xxh3:
 
 
 # The hash function that the ending of a file's name names.
-BY_ENDING = {"sum": ByteSum, "zero": Zero, "poly": Poly31, "xxh3": Xxh3}
+BY_ENDING = {"poly": Poly31, "xxh3": Xxh3}
+
+# The names of the hash functions.
+NAMES = {Poly31: "poly31", Xxh3: "xxh3"}
 
 
 def hash_of_file(name):
-    """Returns the hash function of the blocks of a file of cases: by default the sum."""
-    return BY_ENDING.get(name.rpartition(".")[2], ByteSum)
+    """Returns the hash function of the blocks of a file of cases."""
+    ending = name.rpartition(".")[2]
+    if ending not in BY_ENDING:
+        raise SystemExit(f"{name}: its ending names no hash function")
+    return BY_ENDING[ending]

@@ -22,7 +22,7 @@ def merged(sources):
 def newest_below(items, at, seqno):
     """Returns whether the entry at an index is the first of its key below a sequence number."""
     item = items[at]
-    return first_match(items, item.key, seqno) is item
+    return item.seqno < seqno and first_match(items[:at], item.key, seqno) is None
 
 
 def snapshot(items, seqno):
@@ -64,26 +64,11 @@ def next_block(items, size):
     return len(items)
 
 
-def ends_table(blocks, rest, size):
-    """Returns whether a table ends after these blocks: nothing is left, or the table has its size
-    and another key comes."""
-    has_size = sum(size_of(block) for block in blocks) >= size
-    return not rest or has_size and rest[0].key != blocks[-1][-1].key
-
-
-def tables_of(items, block_size, table_size):
-    """Returns entries cut into tables, and each of these into blocks."""
-    tables, blocks, rest = [], [], items
-    while rest:
-        count = next_block(rest, block_size)
-        blocks.append(rest[:count])
-        rest = rest[count:]
-        if ends_table(blocks, rest, table_size):
-            tables.append(blocks)
-            blocks = []
-    return tables
-
-
-def front_of(key):
-    """Returns the first 16 bytes of a key, fewer being filled with 00."""
-    return (key + bytes(16))[:16]
+def blocks_by_size(items, size):
+    """Returns entries cut into blocks by a size."""
+    blocks = []
+    while items:
+        count = next_block(items, size)
+        blocks.append(items[:count])
+        items = items[count:]
+    return blocks

@@ -3,10 +3,11 @@
 
 import entries
 import runs
-from blocks import Encoded, Refused
+from blocks import Encoded
 from entries import Entry, is_ordered
-from frames import DATA, FILTER, INDEX, read_from
+from frames import DATA, FILTER, INDEX, in_file
 from hashes import Poly31
+from texts import Refused
 
 NUMBERS = {
     "Io": 1,
@@ -37,8 +38,7 @@ def usage():
 
 def failed_by(refused):
     """Returns the fault of bytes that are refused."""
-    name = str(refused).partition("(")[0].partition(" ")[0]
-    return Failed(f"sst: E{NUMBERS[name]} {name}")
+    return Failed(f"sst: E{NUMBERS[str(refused)]} {refused}")
 
 
 def number_in(text, least, limit):
@@ -199,16 +199,7 @@ class Program:
 
 
 class FileReader(runs.Reader):
-    """A reader of a file of the system, where no seek reaches an offset of 2^63 or more."""
+    """A reader of a file of the system."""
 
     def __init__(self, data):
-        super().__init__(Poly31, data, True)
-        self.range = self.seek
-
-    def seek(self, data, offset, size):
-        """Returns the bytes that a handle names."""
-        if offset + size >= 2**64:
-            raise Refused("BadHandle")
-        if offset >= 2**63:
-            raise Refused("Io")
-        return read_from(data, offset, size)
+        super().__init__(Poly31, data, in_file)

@@ -1,8 +1,7 @@
-"""Commands that run the program `sst` on files, and commands on files and bytes."""
+"""Commands that run the program `sst` on files."""
 
-import program
 from room import only
-from words import Fault, bad_word, bytes_of, fnv, hex_of, number_of
+from words import bad_word, bytes_of, fnv, hex_of
 
 SHOWN = 1000
 PLAIN = {ord("_"): 32, ord("~"): 10}
@@ -47,11 +46,10 @@ def sst(room, words):
     """Runs the program: WORDS, on the input that was set, or WORDS INPUT."""
     if len(words) not in (1, 2):
         raise bad_word()
-    text, files = text_in(words[0]), room.kept("files", dict)
-    given = text_in(words[1]) if len(words) == 2 else room.kept("input", bytes)
-    run = program.Program(files, given)
-    fault = run.run(text.split(b" ") if text else [])
-    return " ".join(word_of_text(part) for part in [run.output, fault] if part)
+    text = text_in(words[0])
+    given = text_in(words[1]) if len(words) == 2 else room.input
+    output, faults = room.by.program.run(room.files, text.split(b" ") if text else [], given)
+    return " ".join(word_of_text(part) for part in [output, faults] if part)
 
 
 def lines(room, words):
@@ -64,55 +62,4 @@ def lines(room, words):
     return word_of_text(room.input)
 
 
-def line(room, words):
-    """Reads an entry line, and prints the line of the entry: LINE."""
-    entry = program.entry_in(text_in(only(words, 1)[0]))
-    return word_of_text(program.line_of(entry)[:-1]) if entry else "none"
-
-
-def save(room, words):
-    """Makes a file of the payload: NAME."""
-    room.kept("files", dict)[only(words, 1)[0].encode()] = room.payload
-    return f"{len(room.payload)} bytes"
-
-
-def load(room, words):
-    """Makes the bytes of a file the payload: NAME."""
-    name = only(words, 1)[0].encode()
-    if name not in room.kept("files", dict):
-        raise Fault("Io")
-    room.payload = room.files[name]
-    return f"{len(room.payload)} bytes"
-
-
-def change(room, words):
-    """Sets bytes of the payload: OFFSET BYTE .."""
-    payload = bytearray(room.payload)
-    if len(words) % 2:
-        raise bad_word()
-    for at, byte in zip(words[::2], words[1::2]):
-        if number_of(at) >= len(payload):
-            raise bad_word()
-        payload[number_of(at)] = number_of(byte, 256)
-    room.payload = bytes(payload)
-    return f"{len(payload)} bytes"
-
-
-def cut(room, words):
-    """Cuts the payload: START END."""
-    start, end = [number_of(word) for word in only(words, 2)]
-    if not start <= end <= len(room.payload):
-        raise bad_word()
-    room.payload = room.payload[start:end]
-    return f"{len(room.payload)} bytes"
-
-
-COMMANDS = {
-    "sst": sst,
-    "lines": lines,
-    "line": line,
-    "save": save,
-    "load": load,
-    "set": change,
-    "cut": cut,
-}
+COMMANDS = {"sst": sst, "lines": lines}

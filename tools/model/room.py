@@ -4,20 +4,14 @@ from words import bad_word
 
 
 class Room:
-    """The hash function of a file, and what its commands have made so far. A module of commands may
-    keep more in attributes of its own, which it finds by `kept`."""
+    """What answers the commands of a file, and what they have made so far. `by` is a `Model`, or a
+    `Library` over the calls that are tested: both have the same methods."""
 
-    def __init__(self, hash_function):
-        self.hash = hash_function
-        self.entries = []
-        self.handles = []
-        self.payload = b""
-
-    def kept(self, name, make):
-        """Returns the attribute of a name, which is made where it is not there."""
-        if not hasattr(self, name):
-            setattr(self, name, make())
-        return getattr(self, name)
+    def __init__(self, by):
+        self.by = by
+        self.entries, self.handles, self.sources, self.tables = [], [], [], []
+        self.payload, self.places = b"", None
+        self.files, self.input = {}, b""
 
 
 def only(words, count):

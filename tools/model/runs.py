@@ -3,9 +3,10 @@
 
 import entries
 import handles
-from blocks import Encoded, Refused, bucket_count, check, little
+from blocks import Encoded, bucket_count, check, little
 from filters import Filter, filter_of, fits
-from frames import DATA, FILTER, INDEX, frame_of, in_file, in_memory, number_at, read_whole
+from frames import DATA, FILTER, INDEX, frame_of, in_memory, number_at, read_whole
+from texts import Refused
 
 FOOTER = 24
 
@@ -68,21 +69,33 @@ def read_footer(data):
     return [index, found if found[1] > 0 else None]
 
 
+def once(kept, key, make):
+    """Returns what is made for a key, or refuses it: as the first time, since either is kept."""
+    if key not in kept:
+        try:
+            kept[key] = (make(), None)
+        except Refused as refused:
+            kept[key] = (None, str(refused))
+    made, refusal = kept[key]
+    if refusal is not None:
+        raise Refused(refusal)
+    return made
+
+
 class Reader:
     """Bytes in memory or in a file, of which frames are read. What a frame is read as is kept,
     since the runs of many cases have frames in common."""
 
     kept = {}
 
-    def __init__(self, hashing, data, is_file=False):
-        self.hashing, self.data = hashing, data
-        self.range = in_file if is_file else in_memory
+    def __init__(self, hashing, data, bytes_at=in_memory):
+        self.hashing, self.data, self.range = hashing, data, bytes_at
 
     def parse(self, frame, wanted):
         """Returns what a frame of a type holds."""
         header, payload = read_whole(self.hashing, frame)
         if header.block_type != wanted:
-            raise Refused(f"InvalidTag(BlockType, {header.block_type})")
+            raise Refused("InvalidTag")
         if wanted == FILTER:
             return Filter(payload)
         kind = entries if wanted == DATA else handles
@@ -92,15 +105,7 @@ class Reader:
         """Returns what the frame at a place holds, which is of the type that is wanted."""
         frame = self.range(self.data, *place)
         key = (self.hashing, frame, wanted)
-        if key not in self.kept:
-            try:
-                self.kept[key] = (self.parse(frame, wanted), None)
-            except Refused as refused:
-                self.kept[key] = (None, str(refused))
-        found, refusal = self.kept[key]
-        if refusal is not None:
-            raise Refused(refusal)
-        return found
+        return once(self.kept, key, lambda: self.parse(frame, wanted))
 
 
 def judge_block(reader, handle, start, before, kept_filter):
@@ -130,6 +135,17 @@ def judge(reader, places):
         blocks.append(items)
         start, before = start + handle.size, items[-1]
     return blocks
+
+
+class Summary:
+    """What a check of a run counts, and its first and its last key."""
+
+    def __init__(self, blocks):
+        items = [item for block in blocks for item in block]
+        seqnos = [item.seqno for item in items]
+        self.blocks, self.entries = len(blocks), len(items)
+        self.first, self.last = items[0].key, items[-1].key
+        self.least, self.greatest = min(seqnos), max(seqnos)
 
 
 def first_match(items, key, seqno):
@@ -165,36 +181,3 @@ class Range:
     def has(self, key):
         """Returns whether a key is in the range."""
         return self.starts_by(key) and self.goes_to(key)
-
-
-class Scan:
-    """What is left of a scan: entries, and refusals of blocks, each of which ends it."""
-
-    def __init__(self, reader, places, keys):
-        if places[1]:
-            reader.read(places[1], FILTER)
-        self.left, self.ended = [], None
-        before = None
-        for handle in reader.read(places[0], INDEX):
-            if keys.starts_by(handle.key) and (before is None or keys.goes_to(before)):
-                self.add(reader, handle, keys)
-            before = handle.key
-
-    def add(self, reader, handle, keys):
-        """Adds what is read of the block of a handle."""
-        try:
-            items = reader.read((handle.offset, handle.size), DATA)
-            self.left += [item.word() for item in items if keys.has(item.key)]
-        except Refused as refused:
-            self.left.append(refused)
-
-    def step(self, is_first):
-        """Takes the first entry left, or the last."""
-        if self.ended is not None:
-            return str(self.ended)
-        if not self.left:
-            return "none"
-        taken = self.left.pop(0 if is_first else -1)
-        if isinstance(taken, Refused):
-            self.ended = taken
-        return str(taken)

@@ -7,6 +7,10 @@ class Window:
     def __init__(self, items):
         self.items, self.low, self.high = items, 0, len(items)
 
+    def restart(self):
+        """Takes the whole list again."""
+        self.low, self.high = 0, len(self.items)
+
     def has_some(self):
         """Returns whether an item is left."""
         return self.low < self.high
@@ -14,6 +18,10 @@ class Window:
     def left(self):
         """Returns how many items are left."""
         return max(self.high - self.low, 0)
+
+    def rest(self):
+        """Returns the items that are left."""
+        return self.items[self.low : self.high]
 
     def next(self):
         """Takes the first item left."""
@@ -29,6 +37,12 @@ class Window:
         self.high -= 1
         return self.items[self.high]
 
+    def move_to(self, at):
+        """Moves the front to an item. Returns whether there is one."""
+        is_there = at < len(self.items)
+        self.low = at if is_there else self.low
+        return is_there
+
     def below(self, key):
         """Returns how many items have a key below another."""
         return sum(item.key < key for item in self.items)
@@ -37,11 +51,9 @@ class Window:
         """Returns how many items have a key that is at most another."""
         return sum(item.key <= key for item in self.items)
 
-    def passed(self, key, seqno):
-        """Returns how many items an index seek passes over: those with a key below, and those with
-        the key and a sequence number of at least this one."""
-        is_passed = lambda item: item.key < key or item.key == key and item.seqno >= seqno
-        return sum(is_passed(item) for item in self.items)
+    def counts(self, key):
+        """Returns how many items have a key below another, and at most it."""
+        return self.below(key), self.at_most(key)
 
     def seek(self, key):
         """Moves the front to the first key not below. Returns whether it is the key."""
@@ -66,15 +78,11 @@ class Window:
     def seek_handle(self, key, seqno):
         """Moves the front to the first handle that can lead to the key below the sequence number.
         Returns whether there is one, wherever the back is."""
-        self.low = self.passed(key, seqno)
+        is_passed = lambda item: item.key < key or item.key == key and item.seqno >= seqno
+        self.low = sum(is_passed(item) for item in self.items)
         return self.low < len(self.items)
 
     def upper_handle(self, key):
         """Moves the back after the first handle with an end key above, or after all."""
         self.high = min(self.at_most(key) + 1, len(self.items))
         return True
-
-
-def heads_of(items, interval):
-    """Returns the heads of items."""
-    return items[::interval]

@@ -1,8 +1,5 @@
 """Words of a case: numbers, byte strings and digests."""
 
-# The most bytes that a word may encode.
-MOST_BYTES = 1_000_000
-
 
 class Fault(Exception):
     """Why a command has no result. Its text is the result."""
@@ -44,11 +41,6 @@ def hex_of(data):
 def truth(value):
     """Returns the word of a truth value."""
     return "true" if value else "false"
-
-
-def order_of(left, right):
-    """Returns the word of how two values compare."""
-    return "Less" if left < right else "Greater" if left > right else "Equal"
 
 
 def fnv(data, state=0xCBF29CE484222325):

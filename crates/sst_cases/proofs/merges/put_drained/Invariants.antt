@@ -1,4 +1,0 @@
-use Rattle.sst_cases.proofs.merges.put_drained.Given as goal
-
-abbrev pub decreases-left : goal.decreases-left
-decreases-left g l = (g.I.Source.left l.source).most
