@@ -154,16 +154,23 @@ header_at-pieces hash128 t fields sum rest l k e =
     let f = bytes_at-append 28 (fields ++ sum) rest (omega (arith, length-append fields sum)) in
     rw (m, b, f, take_at fields sum 24 l, ap (little_number 4) (drop_at fields sum 24 l), header_of-equal hash128 t fields (little_number 4 sum) e) refl
 
--- what was written is read again, whatever follows
-pub header_at-header : (hash128 : List ℕ → ℕ) (h : Header) (rest : List ℕ) → IsHeader h → header_at hash128 (header hash128 h ++ rest) ≡ Ok (h, rest)
+-- the header that is read where one was written, of numbers that may not fit
+header_at-fields : (hash128 : List ℕ → ℕ) (h : Header) (rest : List ℕ) → header_at hash128 (header hash128 h ++ rest) ≡ Ok (header_with h.block_type (fields_of h), rest)
 unfolding header
-header_at-header hash128 h rest fits =
+header_at-fields hash128 h rest =
     let front = header_start-fields_of h in
     let sum = hash128 (header_start h) % 2 ^ 32 in
     let number : little_number 4 (little_bytes 4 sum) ≡ sum = little_number-reads_back 4 sum [] (mod_below (hash128 (header_start h)) (2 ^ 32) (omega arith)) in
     ap (λ xs. header_at hash128 ((xs ++ little_bytes 4 sum) ++ rest)) front
     ∙ header_at-pieces hash128 h.block_type (fields_of h) (little_bytes 4 sum) rest (length-fields_of h) refl (ap (λ xs. hash128 xs % 2 ^ 32) (sym front) ∙ sym number)
-    ∙ ap (λ k. Ok (k, rest)) (header_with-fields_of h fits)
+
+-- has its type
+pub header_at-type : (hash128 : List ℕ → ℕ) (h : Header) (rest : List ℕ) → (g : Header) × (header_at hash128 (header hash128 h ++ rest) ≡ Ok (g, rest)) × (g.block_type ≡ h.block_type)
+header_at-type hash128 h rest = (header_with h.block_type (fields_of h), header_at-fields hash128 h rest, refl)
+
+-- what was written is read again, whatever follows
+pub header_at-header : (hash128 : List ℕ → ℕ) (h : Header) (rest : List ℕ) → IsHeader h → header_at hash128 (header hash128 h ++ rest) ≡ Ok (h, rest)
+header_at-header hash128 h rest fits = header_at-fields hash128 h rest ∙ ap (λ k. Ok (k, rest)) (header_with-fields_of h fits)
 
 header-header_with : (hash128 : List ℕ → ℕ) (t : BlockType) (fields sum rest : List ℕ) → IsBytes fields → length fields ≡ 24 → little_bytes 4 (hash128 (magic ++ (block_type_byte t ∷ fields)) % 2 ^ 32) ≡ sum → header hash128 (header_with t fields) ++ rest ≡ magic ++ (block_type_byte t ∷ ((fields ++ sum) ++ rest))
 unfolding header

@@ -1,6 +1,6 @@
 -- Tables of either kind: what is kept of a file, and what is read of it.
-use Rattle.std.specs.Prelude.{◌≡◌, ℕ, ◌+◌, ◌<◌, List, map, slice_index, Option, None, IfSome, Result, Ok, Err, MatchResult}
-use Rattle.sstable_blocks.specs.Prelude.{HandleParts, Counted, CountsBetween, Entry, Handle, block_type_of, handles}
+use Rattle.std.specs.Prelude.{◌≡◌, ℕ, ◌+◌, ◌<◌, min, Bool, true, false, List, map, Option, None, IfSome, Result, Ok, Err, MatchResult}
+use Rattle.sstable_blocks.specs.Prelude.{HandleParts, Header, Counted, CountsBetween, Entry, Handle, handles, header_at}
 use Rattle.sstable_blocks.specs.BlockTypes.{BlockType, Meta}
 use Rattle.sstable_blocks.specs.Results.{◌>>=◌, Error}
 use Rattle.sst_parts.specs.PartReaders.{FindsAllInParts, needles_frames, read_open_by_top}
@@ -28,15 +28,25 @@ pub data AnyKept : Type 0 where
   plain : RunHandles × Option (List ℕ) × List Handle → AnyKept
   parted : HandleParts × List Handle → AnyKept
 
--- where the header of the frame in the range of a handle is: its first 33 bytes
+-- where the header of the frame in the range of a handle is: its first 33 bytes, or all where there are fewer
 abbrev pub header_place : HandleParts → HandleParts
-header_place h = record { offset = h.offset; size = 33 }
+header_place h = record { offset = h.offset; size = min h.size 33 }
 
--- the type of the frame in the range of a handle, by the byte in its header
-abbrev pub type_at : List ℕ → HandleParts → Result BlockType Error
-type_at bytes h = do
-  header ← range_at bytes (header_place h)
-  block_type_of (slice_index header 4)
+-- the type of the frame of an index of parts
+abbrev pub is_meta : BlockType → Bool
+is_meta Meta = true
+is_meta t = false
+
+-- a header that was read is that of an index of parts
+abbrev pub is_top : Result (Header × List ℕ) Error → Bool
+is_top (Ok found) = is_meta found.0.block_type
+is_top (Err e) = false
+
+-- the frame in the range of a handle has the header of an index of parts
+abbrev pub is_parted_at : Hashes → List ℕ → HandleParts → Result Bool Error
+is_parted_at c bytes h = do
+  found ← range_at bytes (header_place h)
+  Ok (is_top (header_at c.hash128 found))
 
 -- what is kept of a plain table by its handles, and of a parted one by that of its index
 abbrev pub plain_by : Hashes → List ℕ → RunHandles → Result AnyKept Error
@@ -49,27 +59,27 @@ parted_by c bytes top = do
   tops ← tops_at c bytes top
   Ok (parted (top, tops))
 
--- a table whose index is in a frame of type `Meta` is parted, any other plain
-abbrev pub any_by_type : Hashes → List ℕ → RunHandles → BlockType → Result AnyKept Error
-any_by_type c bytes h Meta = parted_by c bytes h.index
-any_by_type c bytes h t = plain_by c bytes h
+-- what is kept of a table that is in parts, or is not
+abbrev pub any_by_kind : Hashes → List ℕ → RunHandles → Bool → Result AnyKept Error
+any_by_kind c bytes h true = parted_by c bytes h.index
+any_by_kind c bytes h false = plain_by c bytes h
 
--- what is kept of a table, by the type of the frame of its index
+-- what is kept of a table: in parts where the frame of its index has the header of one of parts, else plain
 abbrev pub any_by_handles : Hashes → List ℕ → RunHandles → Result AnyKept Error
-any_by_handles c bytes h = type_at bytes h.index >>= any_by_type c bytes h
+any_by_handles c bytes h = is_parted_at c bytes h.index >>= any_by_kind c bytes h
 
--- what is kept of a table file, by the type of the frame that its footer names as index
+-- what is kept of a table file, by the frame that its footer names as index
 abbrev pub any_by_footer : Hashes → List ℕ → Result AnyKept Error
 any_by_footer c bytes = table_handles bytes >>= any_by_handles c bytes
 
--- the frames that are asked for to open a table whose index is of a type: the index of a parted one, or those of a plain one
-abbrev pub type_frames : Hashes → List ℕ → RunHandles → BlockType → ℕ
-type_frames c bytes h Meta = 1
-type_frames c bytes h t = open_frames c bytes h
+-- the frames that are asked for to open a table of a kind: the index of a parted one, or those of a plain one
+abbrev pub kind_frames : Hashes → List ℕ → RunHandles → Bool → ℕ
+kind_frames c bytes h true = 1
+kind_frames c bytes h false = open_frames c bytes h
 
 -- and to open one by its handles: the header of the frame of its index before these
 abbrev pub handles_frames : Hashes → List ℕ → RunHandles → ℕ
-handles_frames c bytes h = 1 + frames_after (type_at bytes h.index) (type_frames c bytes h)
+handles_frames c bytes h = 1 + frames_after (is_parted_at c bytes h.index) (kind_frames c bytes h)
 
 -- and to open a table file: its footer before these
 abbrev pub any_frames : Hashes → List ℕ → ℕ

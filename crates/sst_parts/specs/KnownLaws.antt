@@ -12,9 +12,9 @@ use Rattle.sstable_blocks.specs.Results.{◌>>=◌, Error, BadHandle}
 use Rattle.sstable_blocks.specs.Run.{IsFramed}
 use Rattle.sstable_blocks.specs.RunReading.{Hashes, IsFramedAt}
 use Rattle.sstable_blocks.specs.Scans.{handles_within, within}
-use Rattle.sst_merge.specs.Merge.{entry_cmp}
-use Rattle.sst_merge.specs.Stored.{all_keys, are_bytes, checked_list, known_reads}
-use Rattle.sst_merge.specs.TableReads.{order_passes}
+use Rattle.sst_sources.specs.Merge.{entry_cmp}
+use Rattle.sst_sources.specs.Stored.{all_keys, are_bytes, checked_list, known_reads}
+use Rattle.sst_sources.specs.TableReads.{order_passes}
 use Rattle.sst_parts.specs.PartChecks.{check_parted, summary_of_parts}
 use Rattle.sst_parts.specs.Parts.{IsParted, tops_at}
 use Rattle.sst_parts.specs.PartScans.{parts_read}

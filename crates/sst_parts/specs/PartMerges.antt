@@ -10,9 +10,9 @@ use Rattle.sstable_blocks.specs.Run.{Form, form}
 use Rattle.sstable_blocks.specs.RunReading.{Hashes}
 use Rattle.sstable_blocks.specs.Sources.{IsSourceFailure}
 use Rattle.sstable_blocks.specs.Writing.{Follows}
-use Rattle.sst_merge.specs.Merge.{entry_cmp, merge}
-use Rattle.sst_merge.specs.Sources.{Left, MayGive}
-use Rattle.sst_merge.specs.Stored.{all_keys}
+use Rattle.sst_sources.specs.Merge.{entry_cmp, merge}
+use Rattle.sst_sources.specs.Sources.{Left, MayGive}
+use Rattle.sst_sources.specs.Stored.{all_keys}
 use Rattle.sst_parts.specs.PartCopies.{BlockFits, CopiedPartFits, IsPartFrom, PartsSoFar, end_entry, known_so_far}
 use Rattle.sst_parts.specs.Parts.{IsStoredPart}
 use Rattle.sst_parts.specs.PartScans.{file_reads}

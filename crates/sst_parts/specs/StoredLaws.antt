@@ -9,9 +9,9 @@ use Rattle.sstable_blocks.specs.Prelude.{IsBytes, Counted, CountsBetween, Entry,
 use Rattle.sstable_blocks.specs.Results.{BadHandle}
 use Rattle.sstable_blocks.specs.RunReading.{Hashes}
 use Rattle.sstable_blocks.specs.Scans.{handles_within, within}
-use Rattle.sst_merge.specs.Stored.{all_keys, are_bytes, checked_list, known_reads}
-use Rattle.sst_merge.specs.StoredLaws.{known_all}
-use Rattle.sst_merge.specs.TableReads.{bytes_by, checked_by, checked_ordered, table_ordered, within_all}
+use Rattle.sst_sources.specs.Stored.{all_keys, are_bytes, checked_list, known_reads}
+use Rattle.sst_sources.specs.StoredLaws.{known_all}
+use Rattle.sst_sources.specs.TableReads.{bytes_by, checked_by, checked_ordered, table_ordered, within_all}
 use Rattle.sst_parts.specs.PartChecks.{check_parted}
 use Rattle.sst_parts.specs.Parts.{IsParted, tops_at}
 use Rattle.sst_parts.specs.PartScans.{parts_read}

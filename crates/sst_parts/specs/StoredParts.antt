@@ -4,8 +4,8 @@ use Rattle.std.specs.Option.{option_map}
 use Rattle.sstable_blocks.specs.Blocks.{joined}
 use Rattle.sstable_blocks.specs.Prelude.{Entry, HandleParts, Handle, demand, plain}
 use Rattle.sstable_blocks.specs.Results.{◌>>=◌, Error, BadHandle}
-use Rattle.sst_merge.specs.Sources.{Left}
-use Rattle.sst_merge.specs.Stored.{all_keys, are_bytes, checked_list, known_reads, read_errors, scan_list, table_list}
+use Rattle.sst_sources.specs.Sources.{Left}
+use Rattle.sst_sources.specs.Stored.{all_keys, are_bytes, checked_list, known_reads, read_errors, scan_list, table_list}
 use Rattle.sst_parts.specs.AnyScans.{ended_in, left_in, most_in, source_of}
 use Rattle.sst_parts.specs.AnyTables.{read_any, source_in}
 use Rattle.sst_parts.specs.PartChecks.{check_parted}

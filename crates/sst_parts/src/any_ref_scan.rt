@@ -11,7 +11,7 @@ use sstable_blocks::BlockHash;
 use sstable_blocks::run::{MemorySource, RunScan};
 
 /// A scan of a table of either kind over borrowed bytes. Each entry borrows them; no step takes
-/// memory, and none fails. It is a source of `sst_merge`.
+/// memory, and none fails. It is a source of `sst_sources`.
 #[derive(Drop)]
 pub enum AnyRefScan<'a, 'k, H: BlockHash> {
     /// A block at a time.

@@ -2,12 +2,14 @@
 ghost use Rattle.std.specs.Prelude.{◌≡◌, IfSome, Ok, true};
 ghost use Rattle.sst_parts.specs.AnyTables.{AsksOfAny, CountsAny, FindsAllInAny, FindsInAny};
 ghost use Rattle.sst_parts.specs.AnyTables.{LooksInAny, OpensAs};
-ghost use Rattle.sst_parts.specs.AnyTables.{any_by_footer, any_by_handles, any_by_type};
+ghost use Rattle.sst_parts.specs.AnyTables.{any_by_footer, any_by_handles, any_by_kind};
 ghost use Rattle.sst_parts.specs.AnyTables.{any_error_after, any_frames, any_source_after};
 ghost use Rattle.sst_parts.specs.AnyTables.{handles_frames, index_at, index_of};
+ghost use Rattle.sst_parts.specs.AnyTables.{is_parted_at, is_top, kind_frames};
 ghost use Rattle.sst_parts.specs.AnyTables.{needles_frames_of_any};
 ghost use Rattle.sst_parts.specs.AnyTables.{parted_by, plain_by, read_any, read_open_any};
-ghost use Rattle.sst_parts.specs.AnyTables.{source_in, type_at, type_frames, with_source};
+ghost use Rattle.sst_parts.specs.AnyTables.{source_in, with_source};
+ghost use Rattle.sstable_blocks.specs.Prelude.{header_at};
 ghost use Rattle.sstable_blocks.specs.FrameCounts.{open_frames};
 ghost use Rattle.sstable_blocks.specs.ManyReads.{read_each};
 ghost use Rattle.sstable_blocks.specs.RunReading.{hashes};
@@ -19,12 +21,10 @@ use sstable_blocks::run::footer::read_table_footer;
 use sstable_blocks::run::{FrameSource, OpenError, RunHandles, SizedSource, Table};
 use sstable_blocks::table::block::header::HEADER_LEN;
 use sstable_blocks::{
-    BlockHandle, BlockHash, BlockType, IndexBlock, InternalValue, Needle, Result, SeqNo, Steps,
+    BlockHandle, BlockHash, BlockType, Header, IndexBlock, InternalValue, Needle, Result, SeqNo,
+    Steps,
 };
 use std::alloc::Global;
-
-// Where the byte of the type is in a header: see the table at `Header`.
-const TYPE_AT: usize = 4;
 
 /// A table in a source: plain, or parted.
 #[derive(Drop)]
@@ -35,26 +35,37 @@ pub enum AnyTable<H: BlockHash, S: FrameSource> {
     Parted(PartedTable<H, S>),
 }
 
-/// Reads the type of the frame that a handle names, from the header of that frame. Nothing is
-/// verified.
+// Whether bytes begin with the header of an index of parts.
+fn is_top<H: BlockHash>(bytes: &[u8]) -> bool
+    ensures { result ≡ is_top (header_at H.hash128 bytes.now) }
+{
+    let mut rest = bytes;
+    match Header::decode_from::<H, &[u8]>(&mut rest) {
+        Ok(header) => matches!(header.block_type, BlockType::Meta),
+        Err(_) => false,
+    }
+}
+
+/// Returns whether a table is in parts, by the frame that its footer names as index: it is where
+/// that begins with a whole header, of type `Meta`. Any other table is plain, and opening it says
+/// what its index is refused for.
 ///
 /// # Errors
 ///
-/// Those of `FrameSource::read_frame` for the 33 bytes of the header, then `Error::InvalidTag` if
-/// the byte of the type has no type.
-pub fn type_from<S: FrameSource>(
+/// Those of `FrameSource::read_frame` for the header.
+pub fn is_parted<H: BlockHash, S: FrameSource>(
     alloc: Global,
     source: &mut S,
-    handle: &BlockHandle,
-) -> Result<BlockType>
+    index: &BlockHandle,
+) -> Result<bool>
     ensures source { UsesSource S.bytes S.failures S.reads S.is_reliable
         (AsksExactly 1) source.old source.new result }
-    ensures exact { ReadsAs S.bytes S.failures S.is_reliable source.old source.new (λ t. t) result
-        (λ all. type_at all handle.now) }
+    ensures exact { ReadsAs S.bytes S.failures S.is_reliable source.old source.new (λ b. b) result
+        (λ all. is_parted_at (hashes H.hash64 H.hash128) all index.now) }
 {
-    let place = BlockHandle::new(handle.offset(), HEADER_LEN as u32);
-    let header = source.read_frame(alloc, &place)?;
-    BlockType::try_from(header.as_slice()[TYPE_AT])
+    let size = index.size().min(HEADER_LEN as u32);
+    let header = source.read_frame(alloc, &BlockHandle::new(index.offset(), size))?;
+    Ok(is_top::<H>(header.as_slice()))
 }
 
 // Opens a plain table.
@@ -95,36 +106,36 @@ fn open_parted<H: BlockHash, S: FrameSource>(
     }
 }
 
-// Opens a table whose index is in a frame of this type.
-fn open_by_type<H: BlockHash, S: FrameSource>(
+// Opens a table that is in parts, or is not.
+fn open_by_kind<H: BlockHash, S: FrameSource>(
     alloc: Global,
     source: S,
     handles: RunHandles,
-    block_type: BlockType,
+    is_parted: bool,
 ) -> std::result::Result<AnyTable<H, S>, OpenError<S>>
     ensures source { UsesSource S.bytes S.failures S.reads S.is_reliable AsksAny
         source (any_source_after result) (any_error_after result) }
     ensures asked { AsksAs S.bytes S.failures S.reads source (any_source_after result)
         (any_error_after result)
-        (λ all. type_frames (hashes H.hash64 H.hash128) all handles block_type) }
+        (λ all. kind_frames (hashes H.hash64 H.hash128) all handles is_parted) }
     ensures exact { OpensAs S.bytes S.failures S.is_reliable source result
-        (λ all. any_by_type (hashes H.hash64 H.hash128) all handles block_type) }
+        (λ all. any_by_kind (hashes H.hash64 H.hash128) all handles is_parted) }
 {
-    match block_type {
-        BlockType::Meta => open_parted(alloc, source, handles.index),
-        _ => open_plain(alloc, source, handles),
+    if is_parted {
+        open_parted(alloc, source, handles.index)
+    } else {
+        open_plain(alloc, source, handles)
     }
 }
 
 impl<H: BlockHash, S: FrameSource> AnyTable<H, S> {
-    /// Opens a table in a source, by the type of the frame of its index: where that is `Meta`, as
-    /// [`PartedTable::open`] does, else as [`Table::open`] does. Of that frame the header is read
-    /// first.
+    /// Opens a table in a source: where it [`is_parted`], as [`PartedTable::open`] does, else as
+    /// [`Table::open`] does. Of the frame of its index the header is read first.
     ///
     /// # Errors
     ///
-    /// Those of [`type_from`] for the frame of the index, then those of [`PartedTable::open`] or
-    /// [`Table::open`]. The source is returned with the error.
+    /// Those of [`is_parted`], then those of [`PartedTable::open`] or [`Table::open`]. The source is
+    /// returned with the error.
     pub fn open(
         alloc: Global,
         source: S,
@@ -139,16 +150,16 @@ impl<H: BlockHash, S: FrameSource> AnyTable<H, S> {
             (λ all. any_by_handles (hashes H.hash64 H.hash128) all handles) }
     {
         let mut source = source;
-        match type_from(alloc, &mut source, &handles.index) {
-            Ok(block_type) => open_by_type(alloc, source, handles, block_type),
+        match is_parted::<H, S>(alloc, &mut source, &handles.index) {
+            Ok(is_parted) => open_by_kind(alloc, source, handles, is_parted),
             Err(error) => Err(OpenError { error, source }),
         }
     }
 }
 
 impl<H: BlockHash, S: SizedSource> AnyTable<H, S> {
-    /// Opens a table file, by the type of the frame that its footer names as index: reads the
-    /// footer, and opens the table as [`AnyTable::open`] does.
+    /// Opens a table file, by the frame that its footer names as index: reads the footer, and opens
+    /// the table as [`AnyTable::open`] does.
     ///
     /// # Errors
     ///

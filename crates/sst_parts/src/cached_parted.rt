@@ -133,12 +133,4 @@ impl<H: BlockHash, S: FrameSource> CachedParted<H, S> {
     {
         &self.table
     }
-
-    /// Returns the table, which the caches are not used for any more. What they keep of it stays
-    /// there until others take its place.
-    pub fn into_table(self) -> PartedTable<H, S>
-        ensures { result ≡ self.table }
-    {
-        self.table
-    }
 }

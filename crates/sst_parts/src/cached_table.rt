@@ -138,12 +138,4 @@ impl<H: BlockHash, S: FrameSource> CachedTable<H, S> {
     {
         &self.source
     }
-
-    /// Returns the table, which the cache is not used for any more. Its blocks stay there until
-    /// others take their place.
-    pub fn into_table(self) -> Table<H, S>
-        ensures { result ≡ self.table }
-    {
-        Table::from_parts(self.run, self.source)
-    }
 }

@@ -1,11 +1,11 @@
 //! Laws of parted tables. Each function does nothing, and its contract is one law: a caller has it
 //! in its proof by calling the function.
 ghost use Rattle.std.specs.Prelude.{◌≡◌, ◌++◌, ◌<◌, ◌^◌, ℕ, List, None, Ok, Option, map};
-ghost use Rattle.std.specs.Prelude.{Some, slice_get};
+ghost use Rattle.std.specs.Prelude.{Some, false, slice_get, true};
 ghost use Rattle.std.specs.List.{AllByRecursion, AllZip};
 ghost use Rattle.std.specs.Option.{option_map};
 ghost use Rattle.sst_parts.specs.declared.checking.PartedSummary.{PartedSummary};
-ghost use Rattle.sst_parts.specs.AnyTables.{type_at};
+ghost use Rattle.sst_parts.specs.AnyTables.{is_parted_at};
 ghost use Rattle.sst_parts.specs.PartChecks.{check_parted, summary_of_parts};
 ghost use Rattle.sst_parts.specs.PartFinds.{FoundPart, IsReadIndex};
 ghost use Rattle.sst_parts.specs.PartReaders.{read_open_by_top};
@@ -20,7 +20,6 @@ ghost use Rattle.sst_parts.specs.RefScans.{IsScannedPart};
 ghost use Rattle.sst_parts.specs.StoredParts.{IsKnownParted, parted_list};
 ghost use Rattle.sst_parts.specs.PartWriting.{IsPartedFile, IsPartedLayout};
 ghost use Rattle.sstable_blocks.specs.Blocks.{joined};
-ghost use Rattle.sstable_blocks.specs.BlockTypes.{Index, Meta};
 ghost use Rattle.sstable_blocks.specs.Lookup.{IsEnd, first_in, handle_for, place_for};
 ghost use Rattle.sst_parts.specs.declared.closed.PartOrigin.{PartOrigin};
 ghost use Rattle.sstable_blocks.specs.Opened.{range_of};
@@ -262,16 +261,16 @@ pub fn parted_file_opens()
     index_block_is_read();
 }
 
-/// The index of a sound run is in a frame of type `Index`, and that of the parts of a parted table
-/// in one of type `Meta`: so [`AnyTable::open`](crate::AnyTable::open) opens each as what it is.
+/// A sound run is told as plain, and a parted table as one: so
+/// [`AnyTable::open`](crate::AnyTable::open) opens each as what it is.
 pub fn kind_is_told()
     ensures plain { (c : Hashes) (blocks : List (List Entry)) (bytes : List ℕ) (h : RunHandles)
-        → IsSound c blocks bytes h → type_at bytes h.index ≡ Ok Index }
+        → IsSound c blocks bytes h → is_parted_at c bytes h.index ≡ Ok false }
     ensures parted { (c : Hashes) (parts : List (List (List Entry))) (bytes : List ℕ)
-        (top : HandleParts) → IsParted c parts bytes top → type_at bytes top ≡ Ok Meta }
+        (top : HandleParts) → IsParted c parts bytes top → is_parted_at c bytes top ≡ Ok true }
 {}
 
-/// The entries of a parted table are known to readers and merges of `sst_merge`: they are those of
+/// The entries of a parted table are known to readers and sources of `sst_sources`: they are those of
 /// its parts, as decoded. And where entries of bytes are known, these are a parted table of them.
 pub fn parted_is_known()
     ensures known { (c : Hashes) (parts : List (List (List Entry))) (bytes : List ℕ)

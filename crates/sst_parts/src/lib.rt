@@ -1,4 +1,4 @@
-//! Over `sstable_blocks` and `sst_merge`: parted tables, which are table files one after the other
+//! Over `sstable_blocks` and `sst_sources`: parted tables, which are table files one after the other
 //! and an index over them, of which a read reads of one part the footer, the filter, the index and
 //! one block, and whose parts are copied into other tables as they are; scans of them from both
 //! ends, a part at a time, also over borrowed bytes without checks; tables of either kind, as

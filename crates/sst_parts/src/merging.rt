@@ -2,7 +2,7 @@
 //! them.
 ghost use Rattle.std.specs.Prelude.{◌≡◌, ◌⊎◌, ◌<◌, ◌∷◌, [], IfErr, IfOk, IfSome, IsOkUnless};
 ghost use Rattle.std.specs.Prelude.{List, OnOk, Some, length, slice_get};
-ghost use Rattle.sst_merge.specs.Sources.{MayGive, MayMeet, MeetsNoMore};
+ghost use Rattle.sst_sources.specs.Sources.{MayGive, MayMeet, MeetsNoMore};
 ghost use Rattle.sst_parts.specs.PartMerges.{IsPartBytes, IsSameCopier, MergeFails, Merges};
 ghost use Rattle.sst_parts.specs.PartMerges.{PartsFail, TakesLesser, WritesAll, WritesFail};
 ghost use Rattle.sst_parts.specs.PartMerges.{decoded, goes_before, starts_behind};
@@ -18,7 +18,7 @@ use crate::copier::PartCopier;
 use crate::laws::{parted_parts_are_stored, stored_part_is_read};
 use crate::scan_end::scan_of;
 use crate::table::PartedTable;
-use sst_merge::{Head, Source};
+use sst_sources::{Head, Source};
 use sstable_blocks::run::{FrameSource, MemorySource, Scan};
 use sstable_blocks::{
     AsEntry, BlockHash, Error, IndexBlock, InternalValue, KeyedBlockHandle, Output, Result, Slice,

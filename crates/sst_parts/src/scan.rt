@@ -1,23 +1,25 @@
 //! Scans of parted tables: the entries within a range of keys, from both ends, a part at a time.
-ghost use Rattle.std.specs.Prelude.{◌≡◌, ◌+◌, ◌++◌, ◌<◌, ◌≤◌, true, nat_lt, length, IfOk, IfSome};
+ghost use Rattle.std.specs.Prelude.{◌≡◌, ◌+◌, ◌++◌, ◌<◌, ◌≤◌, true, if◌then◌else◌, nat_lt, length};
+ghost use Rattle.std.specs.Prelude.{IfOk, IfSome};
 ghost use Rattle.std.specs.Prelude.{OnOk};
+ghost use Rattle.std.specs.Option.{option_map};
 ghost use Rattle.std.specs.Result.{result_err};
 ghost use Rattle.std.specs.declared.ops.Bound.TheVariants.{Unbounded};
 ghost use Rattle.sst_parts.specs.PartScans.{BeginsPartScan, IsSamePartScan, OpensNext};
 ghost use Rattle.sst_parts.specs.PartScans.{ReadsFirstPart, ReadsLastPart, UsesPartScan, UsesParts};
-ghost use Rattle.sst_parts.specs.PartScans.{near_left, near_most};
+ghost use Rattle.sst_parts.specs.PartScans.{near_left, near_most, reads_in};
 ghost use Rattle.sstable_blocks.specs.BlockReading.{seen_from};
 ghost use Rattle.sstable_blocks.specs.Ends.{IsFewer};
 ghost use Rattle.sstable_blocks.specs.RunReading.{hashes};
-ghost use Rattle.sstable_blocks.specs.Scans.{EndsBy, GivesFirst, handles_within, in_range};
+ghost use Rattle.sstable_blocks.specs.Scans.{EndsBy, GivesFirst, between, handles_within, in_range};
 ghost use Rattle.sstable_blocks.specs.Scans.{range_by};
 
 use crate::laws::parted_is_scanned;
 use crate::part_range::{parts_within, take_index};
 use crate::scan_end::ScanEnd;
 use crate::table::PartedTable;
-use sstable_blocks::run::FrameSource;
 use sstable_blocks::run::ends::Between;
+use sstable_blocks::run::{FrameSource, MemorySource, Scan};
 use sstable_blocks::{BlockHash, Error, InternalValue, Result, Steps};
 use std::alloc::Global;
 use std::marker::Model;
@@ -213,6 +215,27 @@ impl<'k, H: BlockHash, S: FrameSource> PartedScan<'k, H, S> {
         ensures { result.now ≡ self.now.table }
     {
         &self.unreached.table
+    }
+
+    /// Returns which parts were not reached, by their indexes: from the first up to the second,
+    /// without it.
+    pub fn unread(&self) -> (usize, usize)
+        ensures { between self.now.table.tops result.0 result.1 ≡ self.now.handles }
+    {
+        (self.unreached.rest.lo, self.unreached.rest.hi)
+    }
+
+    /// Returns the scan of the part that was opened from the back, or else from the front, if one
+    /// was.
+    pub fn opened(&self, back: bool) -> Option<&Scan<'k, H, MemorySource>>
+        ensures { (if back then self.now.back else self.now.front)
+            ≡ reads_in (hashes H.hash64 H.hash128) (option_map (λ s. s.now) result) }
+    {
+        if back {
+            self.back.opened()
+        } else {
+            self.front.opened()
+        }
     }
 
     /// Returns the table.

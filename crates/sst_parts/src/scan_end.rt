@@ -1,6 +1,7 @@
 //! The part at an end of a scan: its bytes were read whole, and are scanned as a table in memory.
 ghost use Rattle.std.specs.Prelude.{◌≡◌, ◌≢◌, ◌≤◌, ◌^◌, [], ◌∷◌, Err, IfErr, IfOk, IfSome, None};
 ghost use Rattle.std.specs.Prelude.{OnErr, OnOk, true};
+ghost use Rattle.std.specs.Option.{option_map};
 ghost use Rattle.std.specs.Result.{result_err};
 ghost use Rattle.sst_parts.specs.PartScans.{IsGoing, file_reads, most_in, reads_in};
 ghost use Rattle.sstable_blocks.specs.BlockReading.{seen_from};
@@ -159,6 +160,14 @@ impl<'k, H: BlockHash> ScanEnd<'k, H> {
         let scan = scan_of(alloc, bytes, self.from, self.to)?;
         put(&mut self.opened, Some(scan));
         Ok(())
+    }
+
+    // The scan of the part that was opened, if one was.
+    pub(crate) fn opened(&self) -> Option<&Scan<'k, H, MemorySource>>
+        ensures { self.now.reads
+            ≡ reads_in (hashes H.hash64 H.hash128) (option_map (λ s. s.now) result) }
+    {
+        self.opened.as_ref()
     }
 
     // Takes the first entry left of the part, or the last one, or returns `None` if none is left.

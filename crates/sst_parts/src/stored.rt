@@ -1,7 +1,7 @@
 //! Stored tables, parted or of either kind: scans as sources, tables as readers.
 ghost use Rattle.std.specs.Option.{option_map};
 ghost use Rattle.std.specs.Prelude.{IfSome};
-ghost use Rattle.sst_merge.specs.Stored.{MayFailAnyTime, read_errors, scan_list};
+ghost use Rattle.sst_sources.specs.Stored.{MayFailAnyTime, read_errors, scan_list};
 ghost use Rattle.sst_parts.specs.AnyScans.{ref_left};
 ghost use Rattle.sst_parts.specs.PartScans.{parts_left};
 ghost use Rattle.sst_parts.specs.Parts.{parted_most, read_by_top};
@@ -20,7 +20,7 @@ use crate::laws::{accepted_parted_is_sound, parted_is_scanned};
 use crate::ref_scan::PartedRefScan;
 use crate::scan::PartedScan;
 use crate::table::PartedTable;
-use sst_merge::{Reader, Source};
+use sst_sources::{Reader, Source};
 use sstable_blocks::laws::first_match_of_plain;
 use sstable_blocks::run::FrameSource;
 use sstable_blocks::{BlockHash, EntryView, InternalValue, Result, SeqNo, Steps};

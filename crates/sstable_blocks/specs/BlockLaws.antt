@@ -4,8 +4,8 @@ pub use Rattle.sst_base.specs.TestLaws.{and_parts, eq_is, is_not_lt, lt_is, lt_t
 pub use Rattle.sst_base.specs.NumberLaws.{big_number-cons, number_past_end, numbers_decide, pow_256}
 pub use Rattle.sst_base.specs.VarintLaws.{varint_within_more, varint_within_small}
 pub use Rattle.sst_base.specs.ReadingLaws.{bind_some, value_type_of-byte}
-pub use Rattle.sst_base.specs.HeaderLaws.{bind_ok, guard_ok, refuse_ok}
-pub use Rattle.sst_base.specs.FrameLaws.{length-frame}
+pub use Rattle.sst_base.specs.HeaderLaws.{bind_ok, guard_ok, header_at-type, refuse_ok}
+pub use Rattle.sst_base.specs.FrameLaws.{length-frame, length-header}
 pub use Rattle.sst_base.specs.FrameErrorLaws.{NotIo}
 pub use Rattle.sst_base.specs.KeyOrderLaws.{slice_cmp-equal, versions_cmp_total}
 pub use Rattle.sst_block_core.specs.ListLaws.{all_reverse, first_filter, push_reverse}

@@ -16,8 +16,9 @@ pub use Rattle.sst_base.specs.ValueType.{value_type_byte, value_type_of}
 pub use Rattle.sst_base.specs.Block.{BlockParts}
 pub use Rattle.sst_base.specs.BlockHandle.{HandleParts}
 pub use Rattle.sst_base.specs.BlockType.{block_type_byte, block_type_of}
+pub use Rattle.sst_base.specs.declared.table.block.header.Header.{Header}
 unfoldable pub use Rattle.sst_base.specs.Header.{header, header_at, header_start}
-pub use Rattle.sst_base.specs.Frame.{demand}
+pub use Rattle.sst_base.specs.Frame.{demand, header_for}
 unfoldable pub use Rattle.sst_base.specs.Frame.{frame, frame_in, payload_of_type}
 pub use Rattle.sst_base.specs.declared.config.HashRatio.{HashRatio}
 -- blocks

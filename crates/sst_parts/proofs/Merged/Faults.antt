@@ -1,4 +1,5 @@
 -- Why merges of parts fail: what a copier refuses is the end of what was written of the merge.
+use Rattle.sst_sources.specs.ErrorLaws.{gives_more}
 use Rattle.std.proofs.Common.{◌≡◌, ◌+◌, inl, inr, ◌∷◌, [], ◌++◌, ℕ, suc, true, cond, drop, length, List, Option, Some, None, Result, Ok, Err, map, refl, sym, ap, subst, ◌∙◌, append_assoc, append-nil}
 use Rattle.std.proofs.lemmas.Bool.{le-leb}
 use Rattle.std.specs.List.{AllZip, slice_get}
@@ -13,11 +14,10 @@ use Rattle.sstable_blocks.specs.RunReading.{Hashes, range_at}
 use Rattle.sstable_blocks.specs.Scans.{AtHandle, Read}
 use Rattle.sstable_blocks.specs.Sources.{FailsAs, IsSourceFailure}
 use Rattle.sstable_blocks.specs.Writing.{IsWriteRefusal}
-use Rattle.sst_merge.specs.FailureLaws.{is_memory}
-use Rattle.sst_merge.specs.Merge.{entry_cmp, merge}
-use Rattle.sst_merge.specs.Sources.{IsAmong, Left, MeetsNoMore, before}
-use Rattle.sst_merge.specs.Stored.{all_keys, read_errors}
-use Rattle.sst_merge.specs.WriteLaws.{gives_more}
+use Rattle.sst_sources.specs.FailureLaws.{is_memory}
+use Rattle.sst_sources.specs.Merge.{entry_cmp, merge}
+use Rattle.sst_sources.specs.Sources.{IsAmong, Left, MeetsNoMore, before}
+use Rattle.sst_sources.specs.Stored.{all_keys, read_errors}
 use Rattle.sst_parts.specs.PartCopies.{PartsSoFar}
 use Rattle.sst_parts.specs.PartMerges.{AddsEntries, BlockRefused, IsFault, IsPartBytes, IsRefused, IsSameCopier, LesserTaken, MergeFails, MergedTo, Merges, MergesTo, PartRefused, PartsFail, RefusesMerge, RefusesUpTo, WritesAll, WritesFail, decoded, goes_before, starts_behind, with_block}
 use Rattle.sst_parts.specs.Parts.{IsParted, IsStoredPart}

@@ -10,9 +10,9 @@ use Rattle.std.specs.declared.cmp.Ordering.TheVariants.{Less, Equal}
 use Rattle.sstable_blocks.specs.BlockLaws.{lt_is, not_lt, versions_cmp_total}
 use Rattle.sstable_blocks.specs.Prelude.{Entry, Handle, IsInOrder, IsOrdered, entries, handles, plain}
 use Rattle.sstable_blocks.specs.Lookup.{IsEnd}
-use Rattle.sst_merge.specs.Merge.{entry_cmp, merge}
-use Rattle.sst_merge.specs.MergeLaws.{merge-first, merge-second}
-use Rattle.sst_merge.specs.MergeReads.{ge_trans}
+use Rattle.sst_sources.specs.Merge.{entry_cmp, merge}
+use Rattle.sst_sources.specs.MergeLaws.{merge-first, merge-second}
+use Rattle.sst_sources.specs.MergeReads.{ge_trans}
 use Rattle.sst_parts.specs.PartCopies.{end_entry}
 use Rattle.sst_parts.specs.PartMerges.{MergesTo, decoded, starts_behind}
 

@@ -14,13 +14,13 @@ use Rattle.sstable_blocks.specs.RunPlaces.{part_in}
 use Rattle.sstable_blocks.specs.Scans.{AtHandle, Read}
 use Rattle.sstable_blocks.specs.ValueTypes.{Value, Tombstone, WeakTombstone, Indirection}
 use Rattle.std.proofs.lemmas.Bool.{le-leb}
-use Rattle.sst_merge.specs.Stored.{all_keys, known_reads, scan_list}
-use Rattle.sst_merge.specs.StoredLaws.{known_all}
+use Rattle.sst_sources.specs.Stored.{all_keys, known_reads, scan_list}
+use Rattle.sst_sources.specs.StoredLaws.{known_all}
 use Rattle.sst_parts.specs.Parts.{IsParted, IsStoredPart, tops_at}
 use Rattle.sst_parts.specs.PartScans.{file_reads}
 use Rattle.sstable_blocks.specs.RunReading.{Hashes, range_at}
-use Rattle.sst_merge.specs.Merge.{entry_cmp}
-use Rattle.sst_merge.specs.Sources.{Left, TakesFirst}
+use Rattle.sst_sources.specs.Merge.{entry_cmp}
+use Rattle.sst_sources.specs.Sources.{Left, TakesFirst}
 use Rattle.sst_parts.specs.PartCopies.{PartsSoFar, end_entry}
 use Rattle.sst_parts.specs.PartMerges.{AddsEntries, IsPartBytes, LesserTaken, MergedTo, Merges, MergesTo, TakesLesser, WritesAll, decoded, goes_before, starts_behind}
 use Rattle.sst_parts.proofs.Merged.Lists.{decoded-append, first_taken, merges_on, only_taken, part_first, second_taken}

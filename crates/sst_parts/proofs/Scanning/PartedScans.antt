@@ -11,8 +11,8 @@ use Rattle.sstable_blocks.specs.RunPlaceLaws.{part_long}
 use Rattle.sst_parts.specs.PartScans.{bytes_reads, kept_reads, part_reads, parts_read}
 use Rattle.sst_parts.specs.PartMerges.{IsPartBytes}
 use Rattle.sst_parts.specs.RefScans.{IsScannedPart}
-use Rattle.sst_merge.specs.Stored.{all_keys}
-use Rattle.sst_merge.specs.TableReads.{within_all}
+use Rattle.sst_sources.specs.Stored.{all_keys}
+use Rattle.sst_sources.specs.TableReads.{within_all}
 use Rattle.sst_parts.proofs.Writing.Files.{part_cut}
 use Rattle.sst_parts.proofs.Writing.Joins.{joined-map, zip-map}
 use Rattle.sst_parts.proofs.Reading.PartReads.{tops_read}

@@ -1,10 +1,11 @@
 //! Sound runs over borrowed bytes, read without checks and without memory.
-ghost use Rattle.std.specs.Prelude.{◌≡◌, ◌≢◌, ◌↔◌, ℕ, ◌<◌, List, length, Ok, Err, IfOk, IfErr};
+ghost use Rattle.std.specs.Prelude.{◌≡◌, ◌≢◌, ◌↔◌, ℕ, ◌+◌, ◌<◌, List, length, Ok, Err, IfOk, IfErr};
 ghost use Rattle.std.specs.Prelude.{MatchResult, false};
-ghost use Rattle.sst_base.specs.Counted.{CountsExactly};
+ghost use Rattle.sst_base.specs.Counted.{CountsBetween, CountsExactly};
 ghost use Rattle.sst_base.specs.Entry.{Entry, IsEntry};
 ghost use Rattle.sst_block_core.specs.Entries.{entries};
 ghost use Rattle.sst_block_core.specs.Handles.{handles};
+ghost use Rattle.sst_block_core.specs.Intervals.{digits};
 ghost use Rattle.sst_block_core.specs.Payload.{IsBlock};
 ghost use Rattle.sst_block_core.specs.Window.{first_match};
 ghost use Rattle.sst_block_core.specs.DataBlock.{data_ref_of};
@@ -14,6 +15,7 @@ ghost use Rattle.sstable_blocks.specs.Opened.{IsDenied, IsFoundIn, IsFrameRange,
 ghost use Rattle.sstable_blocks.specs.Opened.{index_in};
 ghost use Rattle.sstable_blocks.specs.Opened.{payload_in, range_of};
 ghost use Rattle.sstable_blocks.specs.ReadCosts.{CountsHandle, CountsRead};
+ghost use Rattle.sstable_blocks.specs.ReadCosts.{entries_at, handle_in, heads_at};
 ghost use Rattle.sstable_blocks.specs.RunChecks.{check_run, summary_of};
 ghost use Rattle.sstable_blocks.specs.RunReading.{hashes};
 ghost use Rattle.sstable_blocks.specs.Scans.{AtRunHandle, IsReadRun, run_interval};
@@ -168,7 +170,8 @@ impl<'a, H: BlockHash> RunRef<'a, H> {
 
     /// Returns what [`RunRef::locate`] returns, where the caller knows at which handle a seek in
     /// the index stops: `index` handles are before it. Neither the filter is asked, nor the index
-    /// searched. Takes no memory.
+    /// searched: of the index that handle is decoded, with those before it in its interval. Takes no
+    /// memory.
     pub fn locate_at(
         &self,
         index: usize,
@@ -182,8 +185,11 @@ impl<'a, H: BlockHash> RunRef<'a, H> {
             (λ blocks. found_entry self.now.bytes result
             ≡ first_match entries needle.now seqno (joined blocks)) }
         ensures place { IsFoundIn self.now.bytes result }
-        ensures counts { CountsRead self.now.bytes self.now.handles needle.now seqno steps.old
-            steps.new }
+        ensures counts { let found = handle_in self.now.bytes self.now.handles needle.now seqno in
+            CountsBetween steps.old steps.new (0, 0) (
+              digits (heads_at self.now.bytes found),
+              run_interval self.now + entries_at self.now.bytes found,
+            ) }
     {
         sound_opens();
         if index >= self.index.len() {

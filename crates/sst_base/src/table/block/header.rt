@@ -23,8 +23,8 @@ use byteorder::{ByteOrder, LittleEndian};
 /// The length of a header in bytes.
 pub const HEADER_LEN: usize = 33;
 
-// The bytes that begin a header: LSM and 3.
-const MAGIC: [u8; 4] = [76, 83, 77, 3];
+/// The bytes that begin a header, and the payload of a filter: `LSM` and 3.
+pub const MAGIC: [u8; 4] = [76, 83, 77, 3];
 
 // The bytes that the header's own checksum covers.
 const FRONT_LEN: usize = 29;

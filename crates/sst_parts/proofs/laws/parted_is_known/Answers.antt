@@ -1,5 +1,5 @@
 use Rattle.std.proofs.Common.{◌≡◌}
-use Rattle.sst_merge.specs.Stored.{all_keys}
+use Rattle.sst_sources.specs.Stored.{all_keys}
 use Rattle.sst_parts.specs.KnownLaws.{listed_parted, parted_listed}
 use Rattle.sst_parts.proofs.laws.parted_is_known.Goals as goal
 

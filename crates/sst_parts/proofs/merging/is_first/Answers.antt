@@ -1,6 +1,6 @@
 use Rattle.std.proofs.Common.{ap, not, sym, ◌∙◌}
 use Rattle.std.specs.Ordering.{is_lt}
-use Rattle.sst_merge.specs.Merge.{entry_cmp}
+use Rattle.sst_sources.specs.Merge.{entry_cmp}
 use Rattle.sst_parts.proofs.Merged.Steps.{goes_alone, goes_by, goes_not, none_peeked, peeked}
 use Rattle.sst_parts.proofs.merging.is_first.Goals as goal
 

@@ -4,7 +4,7 @@ use Rattle.sstable_blocks.specs.Blocks.{joined}
 use Rattle.sstable_blocks.specs.Prelude.{Entry}
 use Rattle.sstable_blocks.specs.RunReading.{hashes}
 use Rattle.sstable_blocks.specs.Sources.{KeepsSource}
-use Rattle.sst_merge.specs.Sources.{MeetsNoMore}
+use Rattle.sst_sources.specs.Sources.{MeetsNoMore}
 use Rattle.sst_parts.specs.PartMerges.{IsSameCopier, Merges}
 use Rattle.sst_parts.specs.Parts.{IsParted}
 use Rattle.sst_parts.proofs.Merged.Steps.{from_part}

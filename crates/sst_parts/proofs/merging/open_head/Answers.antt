@@ -2,7 +2,7 @@ use Rattle.std.proofs.Common.{◌≡◌, inl, inr, List, ℕ, rules, sym, subst,
 use Rattle.std.proofs.lemmas.Result.{IfErr-weaker, IfOk-weaker, err_from_is_err_and}
 use Rattle.sstable_blocks.specs.RunReading.{hashes}
 use Rattle.sst_parts.specs.PartMerges.{IsPartBytes}
-use Rattle.sst_merge.specs.FailureLaws.{is_memory}
+use Rattle.sst_sources.specs.FailureLaws.{is_memory}
 use Rattle.sst_parts.proofs.Merged.Faults.{not_refused, scan_part_meets}
 use Rattle.sst_parts.proofs.Merged.Steps.{scan_part_list}
 use Rattle.sst_parts.specs.PartMerges.{decoded}

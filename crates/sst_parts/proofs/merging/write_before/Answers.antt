@@ -1,6 +1,6 @@
+use Rattle.sst_sources.specs.ErrorLaws.{gives_more}
 use Rattle.std.proofs.Common.{inl, sym, subst, ◌∙◌}
 use Rattle.std.proofs.lemmas.Result.{err_from_is_err_and}
-use Rattle.sst_merge.specs.WriteLaws.{gives_more}
 use Rattle.sstable_blocks.specs.RunReading.{hashes}
 use Rattle.sst_parts.specs.PartMerges.{Merges}
 use Rattle.sst_parts.proofs.Merged.Held.{merges_both, merges_none, same_on, same_self}

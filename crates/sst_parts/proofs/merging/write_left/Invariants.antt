@@ -1,5 +1,5 @@
 use Rattle.sstable_blocks.specs.RunReading.{hashes}
-use Rattle.sst_merge.specs.Sources.{MeetsNoMore}
+use Rattle.sst_sources.specs.Sources.{MeetsNoMore}
 use Rattle.sst_parts.specs.PartMerges.{IsSameCopier}
 use Rattle.sst_parts.proofs.Merged.Steps.{WrittenSoFar}
 use Rattle.sst_parts.proofs.merging.write_left.Given as goal

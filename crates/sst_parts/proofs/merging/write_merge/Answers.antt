@@ -1,8 +1,8 @@
+use Rattle.sst_sources.specs.ErrorLaws.{gives_more}
 use Rattle.std.proofs.Common.{inl, inr}
 use Rattle.std.proofs.lemmas.Result.{err_from_is_err_and}
 use Rattle.sstable_blocks.specs.RunReading.{hashes}
 use Rattle.sst_parts.proofs.Merged.Held.{merges_none, same_on, same_self}
-use Rattle.sst_merge.specs.WriteLaws.{gives_more}
 use Rattle.sst_parts.proofs.Merged.Faults.{fails_lesser}
 use Rattle.sst_parts.proofs.Merged.Steps.{one_more, part_done}
 use Rattle.sst_parts.proofs.merging.write_merge.Goals as goal

@@ -1,6 +1,6 @@
 use Rattle.std.proofs.Common.{◌+◌}
 use Rattle.sstable_blocks.specs.RunReading.{hashes}
-use Rattle.sst_merge.specs.Sources.{MeetsNoMore}
+use Rattle.sst_sources.specs.Sources.{MeetsNoMore}
 use Rattle.sst_parts.specs.PartMerges.{IsSameCopier}
 use Rattle.sst_parts.proofs.Merged.Steps.{MergedSoFar}
 use Rattle.sst_parts.proofs.merging.write_merge.Given as goal

@@ -1,5 +1,5 @@
 use Rattle.std.proofs.Common.{map, ◌∙◌, ap, sym, subst}
-use Rattle.sst_merge.specs.TableReads.{within_all}
+use Rattle.sst_sources.specs.TableReads.{within_all}
 use Rattle.sst_parts.specs.AnyTables.{HasEntries, source_in}
 use Rattle.sst_parts.specs.Parts.{IsParted}
 use Rattle.sstable_blocks.specs.Blocks.{joined}

@@ -2,9 +2,9 @@ use Rattle.std.proofs.Common.{◌<◌}
 use Rattle.std.specs.Option.{option_map}
 use Rattle.sstable_blocks.specs.Prelude.{Entry}
 use Rattle.sstable_blocks.specs.RunReading.{hashes}
-use Rattle.sst_merge.specs.FailureLaws.{scan_fails, scan_no_more}
-use Rattle.sst_merge.specs.Stored.{read_errors, scan_list}
-use Rattle.sst_merge.specs.StoredLaws.{scan_step}
+use Rattle.sst_sources.specs.FailureLaws.{scan_fails, scan_no_more}
+use Rattle.sst_sources.specs.Stored.{read_errors, scan_list}
+use Rattle.sst_sources.specs.StoredLaws.{scan_step}
 use Rattle.sst_parts.specs.AnyScans.{ended_in, left_in, most_in, source_of}
 use Rattle.sst_parts.proofs.stored.AnyScanSourceInternalValue.next_entry.Goals as goal
 

@@ -2,8 +2,8 @@ use Rattle.std.proofs.Common.{◌<◌, ◌≡◌, IfOk, ap, ◌∙◌}
 use Rattle.sstable_blocks.specs.Lookup.{handle_for}
 use Rattle.sstable_blocks.specs.Prelude.{handles}
 use Rattle.sstable_blocks.specs.RunReading.{hashes}
-use Rattle.sst_merge.specs.FailureLaws.{table_fails}
-use Rattle.sst_merge.specs.Stored.{all_keys}
+use Rattle.sst_sources.specs.FailureLaws.{table_fails}
+use Rattle.sst_sources.specs.Stored.{all_keys}
 use Rattle.sst_parts.specs.Parts.{parted_most, read_by_top}
 use Rattle.sst_parts.specs.StoredLaws.{counts_from_none, parted_found}
 use Rattle.sst_parts.specs.StoredParts.{parted_list}

@@ -6,10 +6,11 @@ ghost use Rattle.sstable_blocks.specs.Bits.{HasBit};
 ghost use Rattle.sstable_blocks.specs.Probes.{secondary_hash, IsProbe};
 ghost use Rattle.sstable_blocks.specs.Filter.{empty_filter, filter_payload, IsFilterOf};
 
-use super::{HASH_TYPE, MAGIC};
+use super::HASH_TYPE;
 use crate::table::filter::bit_array;
 use crate::table::filter::filter_type::FilterType;
 use crate::table::filter::policy::MAX_BITS;
+use sst_base::table::block::header::MAGIC;
 use sst_base::{BlockHash, Divisor, Error, Result};
 use std::alloc::Global;
 use std::marker::Model;

@@ -10,11 +10,9 @@ use super::bit_array::BitArrayReader;
 use super::filter_type::FilterType;
 pub use builder::{Builder, secondary_hash};
 use byteorder::{ByteOrder, LittleEndian};
+use sst_base::table::block::header::MAGIC;
 use sst_base::{BlockHash, Divisor, Error, HeaderName, Result, TagName};
 use std::marker::Model;
-
-// The bytes that begin a filter: LSM and 3.
-const MAGIC: [u8; 4] = [76, 83, 77, 3];
 
 // The only hash type.
 const HASH_TYPE: u8 = 0;

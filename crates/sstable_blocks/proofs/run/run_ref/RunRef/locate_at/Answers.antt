@@ -1,5 +1,4 @@
-use Rattle.std.proofs.Common.{◌≡◌, ℕ, ◌+◌, ◌<◌, ◌≤◌, List, length, Some, None, refl, sym, ap, subst, ◌∙◌, arith, inl, inr, cond, eqb}
-use Rattle.std.proofs.lemmas.Bool.{cases_Bool, eqb-true}
+use Rattle.std.proofs.Common.{◌≡◌, ℕ, ◌+◌, ◌<◌, ◌≤◌, List, length, Some, None, refl, sym, ap, subst, ◌∙◌, arith, inl, inr}
 use Rattle.std.proofs.lemmas.Option.{slice_get_cases, slice_get_past}
 use Rattle.std.specs.List.{slice_get}
 use Rattle.std.specs.Option.{option_map}
@@ -14,39 +13,32 @@ use Rattle.sst_block_core.specs.Window.{first_match}
 use Rattle.sstable_blocks.specs.Lookup.{place_for}
 use Rattle.sstable_blocks.specs.Opened.{found_entry, index_in, payload_in, range_of}
 use Rattle.sstable_blocks.specs.PointLaws.{found_none, found_some, some_range}
-use Rattle.sstable_blocks.specs.ReadCosts.{CountsHandle, CountsRead, entries_at, handle_in, handles_most, heads_at, interval_in}
+use Rattle.sstable_blocks.specs.ReadCosts.{CountsHandle, entries_at, handle_in, heads_at, interval_in}
 use Rattle.sstable_blocks.specs.RunReading.{hashes}
 use Rattle.sstable_blocks.specs.Scans.{AtRunHandle}
 use Rattle.sstable_blocks.specs.Sound.{RunParts}
 use Rattle.sstable_blocks.specs.declared.run.RunHandles.{RunHandles}
 use Rattle.sstable_blocks.proofs.run.run_ref.RunRef.locate_at.Goals as goal
 
--- a seek decodes no fewer handles than an interval has
-interval_fits : (q : ℕ) → q ≤ handles_most q
-interval_fits q = elim (cases_Bool (eqb q 1)) [
-  | inl one ↦ (let is = eqb-true q 1 one in omega (arith, is, ap (λ b. cond b 1 (q + 1)) one))
-  | inr more ↦ omega (arith, ap (λ b. cond b 1 (q + 1)) more)
-]
-
 -- what a read of the block in a frame examines
 abbrev IsOfBlock : List ℕ → HandleParts → Counted → Counted → Type 0
 IsOfBlock bytes k old new = CountsBetween old new (0, 0) (digits (head_count (interval_in bytes k) (length (items_in entries (payload_in bytes k)))), interval_in bytes k + 1)
 
--- what is examined of the handle that is known, and of its block, is no more than a read examines
+-- what is examined of the handle that is known, and of its block, is what a read examines of these
 counts_read : (bytes : List ℕ) (h : RunHandles) (needle : List ℕ) (s : ℕ) (k : HandleParts) → Some k ≡ option_map range_of (handle_in bytes h needle s)
     → (i : ℕ) (old mid new : Counted) → CountsHandle old mid (interval_in bytes h.index) i
-    → IsOfBlock bytes k mid new → CountsRead bytes h needle s old new
+    → IsOfBlock bytes k mid new
+    → CountsBetween old new (0, 0) (digits (heads_at bytes (handle_in bytes h needle s)), interval_in bytes h.index + entries_at bytes (handle_in bytes h needle s))
 counts_read bytes h needle s k at i old mid new handle block =
     let g = some_range (handle_in bytes h needle s) k (sym at) in
     let heads = ap (heads_at bytes) g.1 ∙ ap (λ (r : HandleParts). head_count (interval_in bytes r) (length (items_in entries (payload_in bytes r)))) g.2 in
     let items = ap (entries_at bytes) g.1 ∙ ap (λ (r : HandleParts). interval_in bytes r + 1) g.2 in
-    let fits = interval_fits (interval_in bytes h.index) in
     let first = handle.exact in
     record {
       heads_least = omega (arith, first.heads, block.heads_least);
       heads_most = omega (arith, first.heads, block.heads_most, ap digits heads);
       entries_least = omega (arith, first.entries, block.entries_least);
-      entries_most = omega (arith, first.entries, block.entries_most, handle.most, fits, items);
+      entries_most = omega (arith, first.entries, block.entries_most, handle.most, items);
     }
 
 -- the handle at the place where a seek stops is the one that it finds
