@@ -1,6 +1,6 @@
-//! Tests of what is no data: devices, sources and writers that fail, allocations that are refused,
-//! arguments and streams of the program, and worked values of the definitions, which the prover
-//! computes. All other cases are lines of data: see `sst_cases`.
+//! Tests of what is no data: worked values of the definitions, which the prover computes; readers,
+//! writers, files and sources that fail at a call; and calls that no program makes, each as a user
+//! would write it. All else is a line of data in `tests/cases`, or a script over the programs.
 //!
 //! They stand in one crate apart from the libraries, which are so proved once, and by public calls
 //! alone.
@@ -11,24 +11,14 @@ mod base;
 #[cfg(test)]
 mod blocks;
 #[cfg(test)]
-mod cached;
-#[cfg(test)]
-mod cached_parts;
-#[cfg(test)]
-mod copied_parts;
-#[cfg(test)]
-mod many_keys;
-#[cfg(test)]
-mod merged_parts;
-#[cfg(test)]
 mod merges;
 #[cfg(test)]
 mod parts;
 #[cfg(test)]
-mod program;
-#[cfg(test)]
 mod runs;
-
-/// What a test returns that ends early where a call fails.
 #[cfg(test)]
-type Tested = Result<(), std::test::Fail>;
+mod store;
+#[cfg(test)]
+mod uses;
+#[cfg(test)]
+mod versions;

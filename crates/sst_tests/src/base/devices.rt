@@ -79,11 +79,9 @@ pub enum Failure {
     Error,
     /// A call takes no byte.
     NoByte,
-    /// A flush returns an error, and no call does.
-    Flush,
 }
 
-/// Takes a byte a call, counts the flushes, and fails at the call `fails_at`, or at each flush.
+/// Takes a byte a call, counts the flushes, and fails at the call `fails_at`.
 #[derive(Drop)]
 pub struct SlowWriter {
     /// The bytes that it took.
@@ -99,13 +97,8 @@ pub struct SlowWriter {
 }
 
 impl SlowWriter {
-    /// Makes a writer that holds these bytes, and whose call of this number returns an error.
-    pub fn new(taken: Vec<u8>, fails_at: usize) -> SlowWriter {
-        SlowWriter::failing(taken, fails_at, Failure::Error)
-    }
-
-    /// Makes a writer that holds these bytes and fails like this.
-    pub fn failing(taken: Vec<u8>, fails_at: usize, failure: Failure) -> SlowWriter {
+    /// Makes a writer that holds these bytes, and whose call of this number fails like this.
+    pub fn new(taken: Vec<u8>, fails_at: usize, failure: Failure) -> SlowWriter {
         SlowWriter {
             taken,
             calls: 0,
@@ -125,11 +118,10 @@ impl Output for SlowWriter {
 impl Write for SlowWriter {
     fn write(&mut self, buf: &[u8]) -> io::Result<usize> {
         if self.calls == self.fails_at {
-            match self.failure {
-                Failure::Error => return Err(io::Error::from(ErrorKind::Other)),
-                Failure::NoByte => return Ok(0),
-                Failure::Flush => {}
-            }
+            return match self.failure {
+                Failure::Error => Err(io::Error::from(ErrorKind::Other)),
+                Failure::NoByte => Ok(0),
+            };
         }
         self.calls = self.calls.wrapping_add(1);
         match buf.first() {
@@ -143,10 +135,7 @@ impl Write for SlowWriter {
 
     fn flush(&mut self) -> io::Result<()> {
         self.flushes = self.flushes.wrapping_add(1);
-        match self.failure {
-            Failure::Flush => Err(io::Error::from(ErrorKind::Other)),
-            _ => Ok(()),
-        }
+        Ok(())
     }
 }
 

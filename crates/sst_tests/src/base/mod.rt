@@ -1,5 +1,4 @@
-//! Frames and values over devices that are slow or fail, and where an allocation fails.
-pub mod devices;
+pub(crate) mod devices;
 mod frames;
-mod refused;
+mod printed;
 mod vectors;

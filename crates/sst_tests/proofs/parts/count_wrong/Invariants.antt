@@ -1,5 +1,5 @@
 use Rattle.sst_parts.specs.CachedParts.{AreAdded}
-use Rattle.sst_tests.proofs.cached_parts.count_wrong.Given as goal
+use Rattle.sst_tests.proofs.parts.count_wrong.Given as goal
 
 abbrev pub invariant-loop-key : goal.invariant-loop-key
 invariant-loop-key g l = AreAdded g.S.FrameSource.bytes l.parts l.blocks l.table.numbers l.table.table.source

@@ -1,10 +1,9 @@
-// The worked run: its bytes, its entries and its handles.
+// The worked run: its bytes, its entries and its handles; and runs that are written in blocks.
 ghost use Rattle.std.specs.Prelude.{◌≤◌};
 ghost use Rattle.sstable_blocks.specs.Run.{IsWritable};
 
-use crate::runs::lists::push;
 use sst_base::{
-    BlockHandle, BlockOffset, ByteSum, Error, InternalValue, Output, Result, ValueType,
+    BlockHandle, BlockOffset, ByteSum, Error, HashRatio, InternalValue, Output, Result,
 };
 use sstable_blocks::run::{RunConfig, RunHandles, RunWriter};
 use std::alloc::Global;
@@ -36,21 +35,6 @@ pub(crate) const THREE_BLOCKS: [u8; 368] = [
     0x00, 0x00, 0x00, 0x00, 0x06, 0x00, 0x00, 0x00, 0x00, 0x00, 0x00, 0x00, 0x60, 0x00, 0x00, 0x00,
 ];
 
-/// An entry: a key, a value and a sequence number.
-pub(crate) type Entry = (&'static [u8], &'static [u8], u64);
-
-/// The entries of the worked run.
-pub(crate) const THREE: &[Entry] = &[(b"a", b"x", 3), (b"a", b"y", 1), (b"b", b"z", 4)];
-
-/// The list of entries.
-pub(crate) fn list_of(alloc: Global, entries: &[Entry]) -> Result<Vec<InternalValue>> {
-    let mut list = Vec::new(alloc);
-    for (key, value, seqno) in entries {
-        push(&mut list, key, value, *seqno, ValueType::Value)?;
-    }
-    Ok(list)
-}
-
 /// The handles of the worked run.
 pub(crate) fn worked_handles() -> RunHandles {
     RunHandles {
@@ -59,15 +43,15 @@ pub(crate) fn worked_handles() -> RunHandles {
     }
 }
 
-/// The first byte of the value of an entry.
-pub(crate) fn value_of(found: &Option<InternalValue>) -> Option<u8> {
-    match found {
-        Some(entry) => entry.value().as_slice().first().copied(),
-        None => None,
-    }
+/// How the worked run is written: each entry is a head, without buckets, with ten bits of a filter
+/// for each.
+pub(crate) fn worked_config() -> RunConfig
+    ensures { IsWritable result }
+{
+    RunConfig::new(1, HashRatio { num: 0, den: 1 }, 10)
 }
 
-/// Adds entries to a writer, so many in each block. After a block is refused, each further one is.
+/// Adds entries to a writer, so many in each block, until one is refused.
 fn add_blocks<W: Output>(
     writer: &mut RunWriter<ByteSum, W>,
     list: &[InternalValue],
@@ -75,18 +59,13 @@ fn add_blocks<W: Output>(
 ) -> Result<()>
     requires { 1 ≤ len }
 {
-    let mut refused = Ok(());
     for block in list.chunks(len) {
         if !writer.fits_after(block) {
             return Err(Error::OutOfOrder);
         }
-        let added = writer.add_block(block);
-        if refused.is_err() && added != refused {
-            return Err(Error::TooLong);
-        }
-        refused = added;
+        writer.add_block(block)?;
     }
-    refused
+    Ok(())
 }
 
 /// Writes a run of entries, so many in each block.
