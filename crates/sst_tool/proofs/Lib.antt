@@ -1,2 +1,1 @@
 mod Scanning
-mod Printing

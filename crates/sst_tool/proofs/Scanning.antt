@@ -1,5 +1,4 @@
 -- What scans of tables give, and where they end.
-pub mod Firsts
 pub mod Follows
 pub mod Limits
 pub mod Prefixes

@@ -4,11 +4,8 @@ pub mod Ends
 pub mod Frames
 pub mod Keys
 pub mod Limits
-pub mod Merged
 pub mod Orders
 pub mod Printed
 pub mod Probes
 pub mod Statuses
-pub mod Wanted
 pub mod Passed
-pub mod Scanned

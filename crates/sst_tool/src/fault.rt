@@ -13,9 +13,12 @@ use std::{fmt, io};
 /// Why a run fails. It is displayed as its line, without the program's name and the line feed.
 #[derive(Debug, Drop, thiserror::Error)]
 pub enum Fault {
-    /// A word or a file is refused, for the reason in the text.
+    /// A file is refused, for the reason in the text.
     #[error("{0}")]
     Refused(String),
+    /// A word is not what it has to be, for the reason in the text.
+    #[error("{0}")]
+    Word(String),
     /// No entry is left of the tables that are merged.
     #[error("no entries are left")]
     NoEntries,
@@ -77,9 +80,7 @@ impl fmt::Display for Shown {
                 write!(f, "checksum is {found:032x}, expected {expected:032x}")
             }
             (Error::Io, Cause::System(cause)) => write!(f, "{cause}"),
-            (Error::Io, Cause::End) => {
-                f.write_str("beyond the end of the file: it is no table, or was cut")
-            }
+            (Error::Io, Cause::End) => f.write_str("beyond the end of the file"),
             (error, _) => write!(f, "{error}"),
         }
     }
@@ -89,14 +90,28 @@ impl Fault {
     /// Returns the fault of a word that is not a key: what follows `hex:` is not pairs of hex
     /// digits.
     pub fn of_key(alloc: Global, word: &str) -> Fault {
-        Fault::with_text(format!(in alloc; "{word}: no pairs of hex digits after `hex:`"))
+        match format!(in alloc; "{word}: no pairs of hex digits after `hex:`") {
+            Ok(text) => Fault::Word(text),
+            Err(_) => Fault::Memory,
+        }
     }
 
-    /// Returns the status of a run that fails so: 3 where no entry is left, and else 1.
+    /// Returns the fault of a word that is no number of bytes, for an option of this name.
+    pub fn of_size(alloc: Global, name: &str, word: &str) -> Fault {
+        match format!(in alloc;
+            "--{name} {word}: no number of bytes, with K, M or G behind it or not"
+        ) {
+            Ok(text) => Fault::Word(text),
+            Err(_) => Fault::Memory,
+        }
+    }
+
+    /// Returns the status of a run that fails so: 2 for a word, 3 where no entry is left, and else 1.
     pub fn status(&self) -> u8
         ensures { result ≡ status_of self.now }
     {
         match self {
+            Fault::Word(_) => 2,
             Fault::NoEntries => 3,
             _ => 1,
         }
@@ -171,6 +186,13 @@ impl Fault {
         };
         let error = Shown { error, cause };
         Fault::with_text(format!(in alloc; "{name}: {block} at offset {offset}: {error}"))
+    }
+
+    /// Returns the fault of a file whose footer names an index that is beyond its end.
+    pub fn of_foreign(alloc: Global, name: &str, offset: u64) -> Fault {
+        Fault::with_text(format!(in alloc;
+            "{name}: no table, or one that was cut: index at offset {offset}: beyond the end of the file"
+        ))
     }
 
     /// Returns the fault of a line of the input.

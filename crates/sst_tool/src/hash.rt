@@ -4,12 +4,15 @@ ghost use Rattle.sst_tool.specs.Hashes.{hash_shown};
 ghost use Rattle.sstable_blocks.specs.Prelude.{header_at};
 
 use crate::fault::{Fault, Result};
+use crate::frames::{PIECE_LEN, bytes_at, bytes_before_magic};
 use crate::words::{FILE, HASH, MERGE};
 use clap::ArgMatches;
+use sst_program::table::TableFile;
+use sstable_blocks::run::footer::read_footer;
 use sstable_blocks::table::block::header::HEADER_LEN;
-use sstable_blocks::{BlockHash, Header, Poly31, Xxh3};
+use sstable_blocks::{BlockHash, FileSource, FrameSource, Header, Poly31, SizedSource, Xxh3};
 use std::alloc::Global;
-use std::io::Read;
+use std::io::{Read, Seek};
 use std::rt::Files;
 use std::{fmt, fs};
 
@@ -55,24 +58,84 @@ fn hash_at(bytes: &[u8]) -> Option<TableHash>
     }
 }
 
-// The hash function that the first header of a file shows: `Poly31` where it shows none.
-fn hash_in_file<F: Read + Drop>(file: F) -> TableHash {
-    let mut file = file;
-    let mut header = [0u8; HEADER_LEN];
-    match file.read_exact(&mut header) {
-        Ok(()) => hash_at(&header).unwrap_or(TableHash::Poly31),
-        Err(_) => TableHash::Poly31,
+// The hash function under which a header begins at an offset.
+fn hash_from<S: FrameSource>(
+    alloc: Global,
+    source: &mut S,
+    at: u64,
+    end: u64,
+) -> sstable_blocks::Result<Option<TableHash>> {
+    let header = bytes_at(alloc, source, at, HEADER_LEN as u32, end)?;
+    Ok(hash_at(header.as_slice()))
+}
+
+// The hash function of a header that the footer of a table names: of its index, or of its filter.
+fn hash_by_footer<S: FrameSource>(
+    alloc: Global,
+    source: &mut S,
+    end: u64,
+) -> sstable_blocks::Result<Option<TableHash>> {
+    let handles = read_footer(alloc, source, end)?;
+    if let Some(hash) = hash_from(alloc, source, *handles.index.offset(), end)? {
+        return Ok(Some(hash));
+    }
+    match &handles.filter {
+        Some(filter) => hash_from(alloc, source, *filter.offset(), end),
+        None => Ok(None),
     }
 }
 
-/// Returns the hash function that the first header of a file shows: `Poly31` where it shows none.
+// The hash function of the first header that is found in a file.
+fn hash_found<S: FrameSource>(
+    alloc: Global,
+    source: &mut S,
+    end: u64,
+) -> sstable_blocks::Result<Option<TableHash>> {
+    let mut at = 0u64;
+    while at < end {
+        let bytes = bytes_at(alloc, source, at, PIECE_LEN, end)?;
+        if let Some(hash) = hash_at(bytes.as_slice()) {
+            return Ok(Some(hash));
+        }
+        at = at.saturating_add(bytes_before_magic(bytes.as_slice()) as u64);
+    }
+    Ok(None)
+}
+
+// The hash function that a header of a file shows: the first one, one that its footer names, or, in
+// a file that is damaged, any that is found.
+fn hash_in_source<S: SizedSource>(
+    alloc: Global,
+    source: &mut S,
+) -> sstable_blocks::Result<Option<TableHash>> {
+    let end = source.byte_len()?;
+    if let Some(hash) = hash_from(alloc, source, 0, end)? {
+        return Ok(Some(hash));
+    }
+    if let Ok(Some(hash)) = hash_by_footer(alloc, source, end) {
+        return Ok(Some(hash));
+    }
+    hash_found(alloc, source, end)
+}
+
+// The hash function of a file that is opened; what cannot be read shows none.
+fn hash_shown_by<F: Read + Seek + Drop>(alloc: Global, file: F) -> TableHash {
+    let mut source = FileSource::new(TableFile::new(file));
+    match hash_in_source(alloc, &mut source) {
+        Ok(Some(hash)) => hash,
+        _ => TableHash::Poly31,
+    }
+}
+
+/// Returns the hash function that a header of a file shows: the first one, one that its footer
+/// names, or any that is found; `Poly31` where it has none.
 ///
 /// # Errors
 ///
 /// An error if the file cannot be opened.
 pub fn hash_of_file<R: Files>(rt: &R, alloc: Global, name: &str) -> Result<TableHash> {
     match fs::open(rt, name) {
-        Ok(file) => Ok(hash_in_file(file)),
+        Ok(file) => Ok(hash_shown_by(alloc, file)),
         Err(cause) => Err(Fault::of_open(alloc, name, cause)),
     }
 }

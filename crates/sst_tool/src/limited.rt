@@ -1,10 +1,10 @@
 //! The first entries of a source.
 ghost use Rattle.std.specs.Prelude.{◌≡◌, None, IfErr, IfOk, OnOk};
-ghost use Rattle.sst_merge.specs.Sources.{MayGive, MeetsNoMore, TakesFirst};
+ghost use Rattle.sst_sources.specs.Sources.{MayGive, MeetsNoMore, TakesFirst};
 ghost use Rattle.sst_tool.specs.Limits.{limited};
 ghost use Rattle.sst_tool.specs.Passed.{passed_on};
 
-use sst_merge::{Source, keep_error};
+use sst_sources::{Source, keep_error};
 use sstable_blocks::{Error, InternalValue, Result};
 use std::alloc::Global;
 

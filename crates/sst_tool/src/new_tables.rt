@@ -68,7 +68,7 @@ impl<'w> Names<'w> {
     pub fn of_words(words: &ArgMatches<'w>) -> Names<'w> {
         Names {
             out: words.get_str(OUT).unwrap_or(""),
-            is_numbered: words.get_one::<u64>(TABLE_SIZE).is_some(),
+            is_numbered: words.get_str(TABLE_SIZE).is_some(),
         }
     }
 

@@ -1,11 +1,11 @@
 //! Sources of which the order is tested.
 ghost use Rattle.std.specs.Prelude.{◌≡◌, None, IfErr, IfOk, OnOk};
-ghost use Rattle.sst_merge.specs.Sources.{MayGive, MeetsNoMore, TakesFirst};
+ghost use Rattle.sst_sources.specs.Sources.{MayGive, MeetsNoMore, TakesFirst};
 ghost use Rattle.sst_tool.specs.Orders.{may_follow, FailsInOrder, GivesInOrder, MayMisplace};
 ghost use Rattle.sst_tool.specs.Passed.{passed_on};
 ghost use Rattle.sstable_blocks.specs.Scans.{EndsBy};
 
-use sst_merge::{Source, keep_error};
+use sst_sources::{Source, keep_error};
 use sstable_blocks::{Error, InternalKey, InternalValue, Result};
 use std::alloc::Global;
 

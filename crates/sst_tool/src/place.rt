@@ -15,6 +15,17 @@ pub enum TableBlock {
     Part(usize),
 }
 
+impl TableBlock {
+    /// Returns the data block of a number, or of a table in parts the part.
+    pub fn numbered(is_parted: bool, number: usize) -> TableBlock {
+        if is_parted {
+            TableBlock::Part(number)
+        } else {
+            TableBlock::Data(number)
+        }
+    }
+}
+
 impl fmt::Display for TableBlock {
     fn fmt<W: fmt::Write>(&self, f: &mut fmt::Formatter<W>) -> fmt::Result {
         match self {

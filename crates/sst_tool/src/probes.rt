@@ -3,9 +3,14 @@ ghost use Rattle.std.specs.Prelude.{◌≡◌, ◌≤◌, drop, length};
 ghost use Rattle.byteorder.specs.Endian.{little_number};
 ghost use Rattle.sst_tool.specs.Probes.{may_ask};
 
+use crate::fault;
+use crate::fault::Fault;
 use byteorder::{ByteOrder, LittleEndian};
+use sstable_blocks::run::checked::block_from;
 use sstable_blocks::table::block::header::HEADER_LEN;
-use sstable_blocks::{BlockHandle, BlockOffset, FrameSource, Result, Slice};
+use sstable_blocks::{
+    BlockHandle, BlockHash, BlockOffset, BlockType, Error, FrameSource, Result, Slice,
+};
 use std::alloc::Global;
 
 /// The number of probes of a key that any filter may have.
@@ -46,16 +51,34 @@ fn claim_in(read: Result<Slice>, bits: u64) -> Option<Claim> {
     }
 }
 
-/// Reads what a filter claims from its first bytes, which are not verified. There is none where
-/// they cannot be read.
-pub fn claim_at<S: FrameSource>(
-    alloc: Global,
-    source: &mut S,
-    filter: &BlockHandle,
-) -> Option<Claim> {
+// What a filter claims in its first bytes, which are not verified.
+fn claim_of<S: FrameSource>(alloc: Global, source: &mut S, filter: &BlockHandle) -> Option<Claim> {
     let bits = (filter.size() as usize).checked_sub(BITS_AT)?;
     let head = BlockHandle::new(BlockOffset(*filter.offset()), BITS_AT as u32);
     claim_in(source.read_frame(alloc, &head), bits as u64 * 8)
+}
+
+/// Reads what a filter claims. There is none where its first bytes cannot be read, and none where
+/// it claims more than [`FREE_PROBES`] and its frame, which is verified then, is refused.
+///
+/// # Errors
+///
+/// `Fault::Memory` if an allocation fails.
+pub fn claim_at<H: BlockHash, S: FrameSource>(
+    alloc: Global,
+    source: &mut S,
+    filter: &BlockHandle,
+) -> fault::Result<Option<Claim>> {
+    match claim_of(alloc, source, filter) {
+        Some(claim) if claim.probes > FREE_PROBES => {
+            match block_from::<H, S>(alloc, source, filter, BlockType::Filter) {
+                Ok(_) => Ok(Some(claim)),
+                Err(Error::Memory) => Err(Fault::Memory),
+                Err(_) => Ok(None),
+            }
+        }
+        claim => Ok(claim),
+    }
 }
 
 /// Returns whether a filter may be asked for each of so many entries: its probes of a key are not

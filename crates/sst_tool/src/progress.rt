@@ -14,6 +14,9 @@ const FIRST_MILLIS: u64 = 1000;
 // How long the progress stays as it was shown, in milliseconds.
 const NEXT_MILLIS: u64 = 250;
 
+// After how many entries it is seen whether it is time to show their number.
+const ENTRIES_SHOWN: u64 = 1024;
+
 /// What a command has read: the number of blocks, of how many, the offset of the last one, and why
 /// it was not read. The numbers are shown on one line of standard error, for a command of more than
 /// a second.
@@ -143,6 +146,16 @@ impl<'r, R: Clock + Eprint> Progress<'r, R> {
         if self.is_counted.get() {
             self.blocks.set(self.blocks.get().saturating_add(1));
             self.show();
+        }
+    }
+
+    /// Counts an entry of an input, and shows the number if it is time to.
+    pub fn count_entry(&self) {
+        let entries = self.blocks.get().saturating_add(1);
+        self.blocks.set(entries);
+        if entries % ENTRIES_SHOWN == 0 && self.is_due() {
+            self.is_shown.set(true);
+            let _ = eprint!(self.rt; "\r{entries} entries read");
         }
     }
 

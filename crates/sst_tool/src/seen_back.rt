@@ -1,11 +1,11 @@
 //! What a read sees, from the last key to the first.
 ghost use Rattle.std.specs.Prelude.{◌≡◌, ◌+◌, ◌≤◌, if◌then◌else◌, None, Some};
 ghost use Rattle.std.specs.Prelude.{IfErr, IfOk, OnOk};
-ghost use Rattle.sst_merge.specs.Sources.{MayGive, MeetsNoMore, step_errors};
+ghost use Rattle.sst_sources.specs.Sources.{MayGive, MeetsNoMore, step_errors};
 ghost use Rattle.sst_tool.specs.Back.{is_same_key, newest_below};
 ghost use Rattle.sstable_blocks.specs.Prelude.{found_item};
 
-use sst_merge::{Source, keep_error};
+use sst_sources::{Source, keep_error};
 use sstable_blocks::{Error, InternalValue, Result, SeqNo};
 use std::alloc::Global;
 

@@ -12,6 +12,66 @@ pub struct Shown<'a>(pub &'a [u8]);
 #[derive(Drop)]
 pub struct Hex<'a>(pub &'a [u8]);
 
+/// A number of things with the word for one and that for several: `1 entry`, `2 entries`.
+#[derive(Clone, Copy)]
+pub struct Counted {
+    /// The number.
+    pub count: u64,
+    /// The word for one.
+    pub one: &'static str,
+    /// The word for another number.
+    pub several: &'static str,
+}
+
+impl Counted {
+    /// Returns a number of entries.
+    pub fn entries(count: u64) -> Counted {
+        Counted {
+            count,
+            one: "entry",
+            several: "entries",
+        }
+    }
+
+    /// Returns a number of blocks.
+    pub fn blocks(count: u64) -> Counted {
+        Counted {
+            count,
+            one: "block",
+            several: "blocks",
+        }
+    }
+
+    /// Returns a number of parts.
+    pub fn parts(count: u64) -> Counted {
+        Counted {
+            count,
+            one: "part",
+            several: "parts",
+        }
+    }
+
+    /// Returns a number of tables.
+    pub fn tables(count: u64) -> Counted {
+        Counted {
+            count,
+            one: "table",
+            several: "tables",
+        }
+    }
+}
+
+impl fmt::Display for Counted {
+    fn fmt<W: fmt::Write>(&self, f: &mut fmt::Formatter<W>) -> fmt::Result {
+        let word = if self.count == 1 {
+            self.one
+        } else {
+            self.several
+        };
+        write!(f, "{} {word}", self.count)
+    }
+}
+
 /// How the byte strings of an entry are written.
 #[derive(Clone, Copy, PartialEq, Eq)]
 pub enum Style {

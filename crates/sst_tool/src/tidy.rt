@@ -2,6 +2,7 @@
 ghost use Rattle.std.specs.Prelude.{◌≡◌, ◌+◌, ◌<◌, length, not, is_some, IfSome};
 ghost use Rattle.sst_tool.specs.Frames.{offset_after, follow_from};
 
+use crate::fault::Result;
 use sstable_blocks::run::footer::FOOTER_LEN;
 use sstable_blocks::{BlockHandle, IndexBlock, RunHandles, Steps};
 use std::fmt;
@@ -70,6 +71,14 @@ pub fn first_astray(index: &IndexBlock) -> Option<usize>
     None
 }
 
+/// Returns the offset after the last data block of an index.
+pub fn data_end(index: &IndexBlock) -> u64 {
+    match index.len().checked_sub(1) {
+        Some(last) => offset_after(&index.handle_at(last, &mut Steps::new())),
+        None => 0,
+    }
+}
+
 // The frames of index and filter, by their offsets; the same one twice where there is no filter.
 fn frames_behind(handles: &RunHandles) -> (&BlockHandle, &BlockHandle) {
     let index = &handles.index;
@@ -78,6 +87,15 @@ fn frames_behind(handles: &RunHandles) -> (&BlockHandle, &BlockHandle) {
         Some(filter) => (index, filter),
         None => (index, index),
     }
+}
+
+/// Returns how many bytes ranges have.
+pub fn byte_len(gaps: &[Gap]) -> u64 {
+    let mut sum = 0u64;
+    for gap in gaps {
+        sum = sum.saturating_add(gap.len);
+    }
+    sum
 }
 
 impl Gaps {
@@ -93,6 +111,31 @@ impl Gaps {
                 file_len.saturating_sub(FOOTER_LEN as u64),
             ),
         ])
+    }
+
+    /// Returns the same ranges of a table that begins at an offset.
+    pub fn moved(&self, begin: u64) -> Gaps {
+        let mut gaps = self.0;
+        for gap in &mut gaps {
+            if let Some(gap) = gap {
+                gap.offset = gap.offset.saturating_add(begin);
+            }
+        }
+        Gaps(gaps)
+    }
+
+    /// Appends the ranges to others.
+    ///
+    /// # Errors
+    ///
+    /// `Fault::Memory` if an allocation fails.
+    pub fn add_to(&self, all: &mut Vec<Gap>) -> Result<()> {
+        for gap in &self.0 {
+            if let Some(gap) = gap {
+                all.push(*gap)?;
+            }
+        }
+        Ok(())
     }
 
     /// Returns the ranges.

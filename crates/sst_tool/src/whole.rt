@@ -96,7 +96,7 @@ pub fn handles_of<S: SizedSource, R>(
 ) -> Result<RunHandles> {
     match read_table_footer(alloc, source) {
         Ok(handles) => Ok(handles),
-        Err(error) => Err(progress.fault(alloc, file, error)),
+        Err(error) => Err(Fault::of_file(alloc, file, None, error, progress.cause())),
     }
 }
 
@@ -124,7 +124,7 @@ fn test_filter<H: BlockHash, S: FrameSource, R>(
     index: BlockHandle,
     filter: &BlockHandle,
 ) -> Result<()> {
-    let Some(claim) = claim_at(alloc, source, filter) else {
+    let Some(claim) = claim_at::<H, S>(alloc, source, filter)? else {
         return Ok(());
     };
     if claim.probes <= FREE_PROBES {

@@ -120,7 +120,7 @@ enum Kind {
     Key,
     // An option with a number of entries.
     Count,
-    // An option with a number of bytes.
+    // An option with a number of bytes: see `sizes`.
     Size,
     // An option with a sequence number.
     SeqNo,
@@ -145,7 +145,7 @@ const TABLE: Word = (FILE, Kind::Plain, "A table file");
 const TABLE_HASH: Word = (
     HASH,
     Kind::Hash,
-    "The hash function of the table; else what its first header shows",
+    "The hash function of the table; else what a header of it shows",
 );
 
 const READ_AT: Word = (
@@ -231,7 +231,7 @@ const PACK_WORDS: [Word; 8] = [
     (
         HASH,
         Kind::Hash,
-        "The hash function of the new table; else poly31",
+        "The hash function of the new table; else xxh3, as lsm-tree has",
     ),
     TABLES,
     PARTS,
@@ -340,7 +340,7 @@ fn value_name_of(kind: Kind) -> &'static str {
 // What the value of an option has to be.
 fn parser_of(kind: Kind) -> ValueParser<'static> {
     match kind {
-        Kind::Count | Kind::Size | Kind::SeqNo | Kind::SeqNos => ValueParser::Unsigned(0, u64::MAX),
+        Kind::Count | Kind::SeqNo | Kind::SeqNos => ValueParser::Unsigned(0, u64::MAX),
         Kind::Interval => ValueParser::Unsigned(1, u64::from(u8::MAX)),
         Kind::Bits => ValueParser::Unsigned(0, u64::from(u32::MAX)),
         Kind::Hash => ValueParser::Names(&NAMES),
@@ -450,7 +450,8 @@ fn program<'a>(alloc: Global) -> Command<'a> {
         .about("Shows, checks, scans and merges table files")
         .after_help(
             "The status is 1 after a line on standard error, and, with none, where the reader of the \
-            output has gone; 2 after words that are refused.",
+            output has gone; 2 after words that are refused. A SIZE is a number of bytes; K, M or G behind \
+            it stands for 2^10, 2^20 or 2^30 of them.",
         )
         .subcommand_required(true)
         .arg_required_else_help(true)

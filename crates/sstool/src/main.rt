@@ -1,11 +1,27 @@
 //! The program `sstool`: shows, checks, scans and merges table files, for people.
 #![tactic(auto)]
 
+mod blocks;
+mod check;
+mod commands;
+mod get;
+mod merge;
+mod merged;
+mod open;
+mod pack;
+mod parted;
+mod salvage;
+mod scan;
+mod source;
+mod stat;
+
+use commands::run_command;
 use sst_program::pipe::{PipeOutput, QuietFaults};
-use sst_tool::{Progress, command, is_list, run_command};
+use sst_tool::fault::printed;
+use sst_tool::{Progress, command, is_list};
 use std::cell::Cell;
 use std::env;
-use std::io::{ErrorKind, IsTerminal, Write};
+use std::io::{BufWriter, ErrorKind, IsTerminal, Write};
 use std::process::ExitCode;
 
 // Begins the progress of a command. It is shown where standard error is a terminal, and standard
@@ -39,10 +55,12 @@ fn run<O: Write, F: Write>(
         return Ok(2);
     };
     let progress = progress_of(rt, name);
-    let mut input = rt.stdin();
-    let outcome = run_command(&progress, alloc, name, words, &mut input, output);
+    let (mut input, mut lines) = (rt.stdin(), BufWriter::new(alloc, output)?);
+    let outcome = run_command(&progress, alloc, name, words, &mut input, &mut lines);
+    // (what was printed stands before the fault)
+    let flushed = printed(lines.flush());
     progress.clear();
-    match outcome {
+    match outcome.and(flushed) {
         Ok(()) => Ok(0),
         Err(fault) => {
             let _ = writeln!(faults, "sstool: {fault}");

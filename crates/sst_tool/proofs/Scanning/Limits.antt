@@ -2,7 +2,7 @@
 use Rattle.std.proofs.Common.{◌≡◌, ◌∙◌, ◌<◌, ◌-◌, ℕ, List, [], ◌∷◌, take, ap, Option, Some, None, arith}
 use Rattle.std.specs.Option.{option_map}
 use Rattle.sstable_blocks.specs.Prelude.{Entry}
-use Rattle.sst_merge.specs.Sources.{Left, TakesFirst}
+use Rattle.sst_sources.specs.Sources.{Left, TakesFirst}
 use Rattle.sst_tool.specs.Limits.{limited}
 
 take-first : (n : ℕ) (x : Entry) (xs : List Entry) → 0 < n → take n (x ∷ xs) ≡ x ∷ take (n - 1) xs

@@ -3,8 +3,8 @@ use Rattle.std.proofs.Common.{◌≡◌, Option, None, Result, Ok, Err}
 use Rattle.std.specs.Prelude.{OnOk}
 use Rattle.std.specs.Result.{result_err}
 use Rattle.sstable_blocks.specs.Results.{Error}
-use Rattle.sst_merge.specs.ErrorLaws.{meets_over}
-use Rattle.sst_merge.specs.Sources.{Left, MeetsNoMore, step_errors}
+use Rattle.sst_sources.specs.ErrorLaws.{meets_over}
+use Rattle.sst_sources.specs.Sources.{Left, MeetsNoMore, step_errors}
 use Rattle.sst_tool.specs.Passed.{passed_on}
 
 -- they meet no more than it does

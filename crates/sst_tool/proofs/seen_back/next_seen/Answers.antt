@@ -1,6 +1,6 @@
+use Rattle.sst_sources.specs.ErrorLaws.{gives_more}
 use Rattle.std.proofs.Common.{rules}
 use Rattle.std.proofs.lemmas.Result.{err_from_is_err_and}
-use Rattle.sst_merge.specs.WriteLaws.{gives_more}
 use Rattle.sst_tool.proofs.seen_back.next_seen.Goals as goal
 
 pub returns-in_err-entry-clause-cause : goal.returns-in_err-entry-clause-cause

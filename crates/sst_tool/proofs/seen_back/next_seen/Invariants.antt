@@ -1,7 +1,7 @@
 use Rattle.std.proofs.Common.{◌+◌, ◌≤◌}
 use Rattle.sstable_blocks.specs.Prelude.{found_item}
 use Rattle.sst_tool.proofs.seen_back.next_seen.Given as goal
-use Rattle.sst_merge.specs.Sources.{MeetsNoMore}
+use Rattle.sst_sources.specs.Sources.{MeetsNoMore}
 
 abbrev pub decreases-loop-entry : goal.decreases-loop-entry
 decreases-loop-entry g l = (g.I.Source.left l.source).most

@@ -1,2 +1,0 @@
--- What is printed.
-pub mod Printed
